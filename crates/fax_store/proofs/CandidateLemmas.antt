@@ -1,5 +1,5 @@
 -- The jobs that wait, read a page at a time.
-use Rattle.std.proofs.Common.{◌≡◌, Ok, Err, IsErrAnd, ◌<◌, ◌≤◌, ◌+◌, ◌-◌, ◌⊎◌, inl, inr, ℕ, List, [], ◌∷◌, ◌++◌, map, filter, take, drop, length, All, Bool, true, false, cond, not, ◌&&◌, ◌||◌, leb, refl, sym, ap, ap₂, subst, ◌∙◌, arith, append_assoc, append-nil, take-append-drop, get_or, Ordering, Less, Equal, Greater, is_lt, is_gt, is_eq, true≢false}
+use Rattle.std.proofs.Common.{◌≡◌, Ok, Err, IsErrAnd, ◌<◌, ◌≤◌, ◌+◌, ◌-◌, ◌⊎◌, inl, inr, ℕ, List, [], ◌∷◌, ◌++◌, map, filter, take, drop, length, All, Bool, true, false, cond, not, ◌&&◌, ◌||◌, leb, refl, sym, ap, ap₂, subst, ◌∙◌, arith, append_assoc, append-nil, take-append-drop, get_or, Ordering, Less, Equal, Greater, is_lt, is_gt, is_eq, true≢false, ◌==◌, nat_lt, Result, Vec, Option, Some, None, find, slice_get, IsPermutation, IsSorted, IsSortedBy}
 use Rattle.fax_tables.proofs.ResultLemmas.{answered}
 use Rattle.fax_tables.specs.declared.fault.StoreFault.{StoreFault}
 use Rattle.fax_tables.specs.declared.fault.StoreFault.TheVariants.{Unavailable}
@@ -10,12 +10,10 @@ use Rattle.std.specs.declared.vec.IntoIter.{IntoIter}
 use Rattle.fax_store.specs.Calls.{Looks, Queries, Recalls, shown as shown_by}
 use Rattle.fax_store.specs.declared.store.Store.{Store}
 use Rattle.sqlite_trees.specs.declared.store.Store.{Ghosts}
-use Rattle.std.proofs.Math.Bool.{and-true, or_comm}
-use Rattle.std.specs.Prelude.{◌==◌, nat_lt, Result, Vec, Option, Some, None, find, slice_get}
+use Rattle.std.proofs.Math.Bool.{or_comm}
 use Rattle.std.specs.Cmp.{IsTotalOrder}
 use Rattle.std.specs.List.{AllByRecursion}
-use Rattle.std.specs.List.Sorted.{IsPermutation, IsSorted, IsSortedBy}
-use Rattle.std.specs.Ordering.{nat_cmp, on, ordering_reverse, ordering_then, then_cmp}
+use Rattle.std.specs.Ordering.{nat_cmp, on, ordering_reverse, then_cmp}
 use Rattle.std.proofs.lemmas.Bool.{and_parts, leb-true, cases_Bool}
 use Rattle.std.proofs.lemmas.Bool.Decides.{nat_tests}
 use Rattle.std.proofs.lemmas.Map.Text.{is_eq-slice_cmp}
@@ -55,18 +53,16 @@ use Rattle.fax_store.specs.Candidates.{Advances, AreAsked, IsPage, Reaches, Stan
 use Rattle.fax_store.specs.declared.candidates.Asked.{Asked}
 use Rattle.fax_store.specs.Job.{AreWaiting}
 use Rattle.fax_store.specs.declared.candidates.Front.{Front}
-use Rattle.fax_schema.specs.declared.statements.TheConstants.{SELECT_FIRST, SELECT_BEHIND_NUMBER, SELECT_BEHIND_TIME, SELECT_BEHIND_PRIORITY}
 use Rattle.fax_store.specs.declared.candidates.Front.TheVariants.{First, Number, Time, Priority}
 use Rattle.fax_tables.specs.Job.{IsLawfulJob, prospect, prospect_shown}
 use Rattle.fax_tables.specs.Row.{number}
 use Rattle.fax_schema.specs.Schema.{our_tables, jobs_tree}
 use Rattle.fax_tables.specs.Tables.{TablesMean}
 use Rattle.fax_schema.proofs.ColumnLemmas.{all_kept}
-use Rattle.fax_schema.proofs.CompareLemmas.{is_number, more_than}
 use Rattle.fax_schema.proofs.SelectLemmas.{each_passing}
 use Rattle.fax_tables.proofs.TablesLemmas.{row_of}
 use Rattle.fax_store.proofs.JobsLemmas.{ascend, Below}
-use Rattle.fax_schema.proofs.StatementTexts.{SelectsPage, number_tests, other_tests, page_query, priority_tests, prospect_names, prospect_project, select_behind_number, select_behind_priority, select_behind_time, select_first, time_tests}
+use Rattle.fax_schema.proofs.StatementTexts.{SelectsPage, page_query, prospect_names, prospect_project}
 use Rattle.fax_store.proofs.JobsLemmas as waiting
 
 -- ---- the order of the choice
@@ -78,13 +74,9 @@ order = then_cmp (on (λ (j : Job). j.priority) nat_cmp) (then_cmp (on (λ (j : 
 is_total : IsTotalOrder order
 is_total = then_total (on_total (λ (j : Job). j.priority) nat_cmp_total) (then_total (on_total (λ (j : Job). j.tts) nat_cmp_total) (on_total (λ (j : Job). j.number) nat_cmp_total))
 
--- three numbers compared in turn are less by the first, else by the second, else by the third
-less : (p q s u n k : ℕ) → is_lt (ordering_then (nat_cmp p q) (ordering_then (nat_cmp s u) (nat_cmp n k))) ≡ (nat_lt p q || ((p == q) && (nat_lt s u || ((s == u) && nat_lt n k))))
-less p q s u n k = grind (arith, nat_tests)
-
 -- a job is less in this order where it is the better choice
 by_less : (a b : Job) → is_lt (order a b) ≡ better a b
-by_less a b = less a.priority b.priority a.tts b.tts a.number b.number
+by_less a b = grind (arith, nat_tests)
 
 -- each goes before every later one
 abbrev Goes : Job → Job → Type 0
@@ -117,10 +109,6 @@ rises_sorted : (xs : List Job) → HasNoTies xs → IsAscending Comes (sort_by o
 rises_sorted [] free = tt
 rises_sorted (x ∷ xs) free = rises_inserted x _ (all-permutation _ xs (sort_by order xs)
     (IsPermutation-sym (sort_by order xs) xs (IsPermutation-sort_by order is_total xs)) free.0) (rises_sorted xs free.1)
-
--- a job that comes before another isn't the worse choice
-not_after : (a b : Job) → Comes a b → better b a ≡ false
-not_after a b e = sym (by_less b a) ∙ ap is_lt (is_total.antisymm b a ∙ ap ordering_reverse e)
 
 -- ---- all jobs that wait
 
@@ -156,14 +144,11 @@ module _ (db : Database) (m : Queue) (k : Ledger) (means : TablesMean db m k) (t
   pub they_wait : AreWaiting t m all_wait
   they_wait = record {
     due = IsPermutation-sym all_wait all_due (IsPermutation-sort_by order is_total all_due);
-    ordered = λ i d from low. not_after (get_or all_wait i d) (get_or all_wait (i + 1) d) (ascending-get_or Comes all_wait i (i + 1) d come (omega arith) (omega (arith, low)));
+    ordered = λ i d from low. let a = get_or all_wait i d in
+        let b = get_or all_wait (i + 1) d in
+        let before = ascending-get_or Comes all_wait i (i + 1) d come (omega arith) (omega (arith, low)) in
+        sym (by_less b a) ∙ ap is_lt (is_total.antisymm b a ∙ ap ordering_reverse before);
   }
-
-  -- the jobs that wait have one order only
-  one_order : (jobs : List Job) → AreWaiting t m jobs → jobs ≡ all_wait
-  one_order jobs w =
-      let sorted : IsSorted order jobs = λ i d from low. by_less (get_or jobs (i + 1) d) (get_or jobs i d) ∙ w.ordered i d from low in
-      sorted_is-sort_by order is_total all_due jobs no_ties w.due sorted
 
   -- those that are near, in order, are those of all that wait
   near_order : (near : Job → Bool) (jobs : List Job) → IsPermutation (filter (λ j. is_due j t && near j) m.jobs) jobs → IsSortedBy better jobs → jobs ≡ filter near all_wait
@@ -186,12 +171,10 @@ module _ (db : Database) (m : Queue) (k : Ledger) (means : TablesMean db m k) (a
 
   -- the jobs asked for have one order only
   one_asked : (jobs : List Job) → AreAsked asked m jobs → jobs ≡ all_asked
-  one_asked jobs w = w.is ∙ ap (filter (is_other asked.but)) (one_order db m k means asked.t w.all w.waiting)
-
-  -- the jobs asked for stand with the better before the worse
-  asked_in_order : IsAscending Goes all_asked
-  asked_in_order = ascending-filter Goes (is_other asked.but) (all_wait db m k means asked.t)
-      (ascending_weaker Comes Goes (λ a b e. sym (by_less a b) ∙ ap is_lt e) _ (come db m k means asked.t))
+  one_asked jobs w =
+      let sorted : IsSorted order w.all = λ i d from low. by_less (get_or w.all (i + 1) d) (get_or w.all i d) ∙ w.waiting.ordered i d from low in
+      w.is ∙ ap (filter (is_other asked.but))
+      (sorted_is-sort_by order is_total (all_due db m k means asked.t) w.all (no_ties db m k means asked.t) w.waiting.due sorted)
 
 -- what holds of each job of the queue holds of each that is asked for
 pub all_hold : (P : Job → Type 0) (asked : Asked) (m : Queue) (jobs : List Job) → AreAsked asked m jobs → All P m.jobs → All P jobs
@@ -258,58 +241,28 @@ not_is true = refl
 not_is false = refl
 
 -- the job's number IS NOT the one left out: the job is to another number
-is_not : (but : Option (List ℕ)) (j : Job) → is_true (unary Not (binary (Is Binary) (Text j.dial) (value_of but))) ≡ is_other but j
+pub is_not : (but : Option (List ℕ)) (j : Job) → is_true (unary Not (binary (Is Binary) (Text j.dial) (value_of but))) ≡ is_other but j
 unfolding unary binary value_cmp
 is_not None j = refl
 is_not (Some dial) j = not_is (is_eq (value_cmp (Text j.dial) (Text dial))) ∙ ap not (ap is_eq (value_cmp-Text j.dial dial) ∙ is_eq-slice_cmp j.dial dial)
 
-module _ (asked : Asked) (most : ℕ) (old new : State) (m : Queue) (k : Ledger) (means : TablesMean old.now m k) (rows : List Row) where
-  -- what the first text shows is the first page
-  pub first_found : Shown SELECT_FIRST.now (params asked most [] other_tests) old new rows → IsPage asked m First most rows
-  first_found = page_found asked most [] other_tests old new m k means First SELECT_FIRST.now select_first (λ j. ap (λ b. b && true) (is_not asked.but j)) rows
-
-  -- what the text behind a number shows is a page of the same priority and time, with later numbers
-  pub number_found : (p s n : ℕ) → Shown SELECT_BEHIND_NUMBER.now (params asked most (number p ∷ number s ∷ number n ∷ []) number_tests) old new rows → IsPage asked m (Number p s n) most rows
-  number_found p s n =
-      page_found asked most (number p ∷ number s ∷ number n ∷ []) number_tests old new m k means (Number p s n) SELECT_BEHIND_NUMBER.now select_behind_number
-      (λ j. ap₂ ◌&&◌ (is_not asked.but j) (ap₂ ◌&&◌ (is_number j.priority p) (ap₂ ◌&&◌ (is_number j.tts s) (ap (λ b. b && true) (more_than j.number n) ∙ and-true (nat_lt n j.number))))) rows
-
-  -- what the text behind a time shows is a page of the same priority, with later times
-  pub time_found : (p s : ℕ) → Shown SELECT_BEHIND_TIME.now (params asked most (number p ∷ number s ∷ []) time_tests) old new rows → IsPage asked m (Time p s) most rows
-  time_found p s =
-      page_found asked most (number p ∷ number s ∷ []) time_tests old new m k means (Time p s) SELECT_BEHIND_TIME.now select_behind_time
-      (λ j. ap₂ ◌&&◌ (is_not asked.but j) (ap₂ ◌&&◌ (is_number j.priority p) (ap (λ b. b && true) (more_than j.tts s) ∙ and-true (nat_lt s j.tts)))) rows
-
-  -- what the text behind a priority shows is a page of later priorities
-  pub priority_found : (p : ℕ) → Shown SELECT_BEHIND_PRIORITY.now (params asked most (number p ∷ []) priority_tests) old new rows → IsPage asked m (Priority p) most rows
-  priority_found p =
-      page_found asked most (number p ∷ []) priority_tests old new m k means (Priority p) SELECT_BEHIND_PRIORITY.now select_behind_priority
-      (λ j. ap₂ ◌&&◌ (is_not asked.but j) (ap (λ b. b && true) (more_than j.priority p) ∙ and-true (nat_lt p j.priority))) rows
-
 -- a text that shows the rows of a page answers one
-pub answers_page : {S Z : Type 0} (g : Ghosts S) (asked : Asked) (most : ℕ) (old new : Store S) (result : Result (Vec Row Z) StoreFault) (sql : List ℕ)
-    (params meant : Row) (front of : Front) → of ≡ front → params ≡ meant
-    → Queries g old new result (λ rows. Shown sql params (shown_by g old) (shown_by g new) rows.items)
-    → ((m : Queue) (k : Ledger) → TablesMean (shown_by g old).now m k → (rows : List Row) → Shown sql meant (shown_by g old) (shown_by g new) rows → IsPage
-    asked m front most rows) → Recalls g old new result (λ m k rows. IsPage asked m of most rows.items)
-answers_page g asked most old new result sql params meant front of is same finds page = record {
+pub answers_page : {S Z : Type 0} (g : Ghosts S) (asked : Asked) (most : ℕ) (more : Row) (tests : List Term) {old new : Store S}
+    {result : Result (Vec Row Z) StoreFault} {sql : List ℕ} {told : Row} {of : Front} (front : Front) → SelectsPage sql tests
+    → ((j : Job) → waiting.is_further asked.t (rest asked most more tests) tests prospect_project (row_of j) ≡ (is_other asked.but j && is_near front j))
+    → of ≡ front → told ≡ params asked most more tests → Queries g old new result (λ rows. Shown sql told (shown_by g old) (shown_by g new) rows.items)
+    → Recalls g old new result (λ m k rows. IsPage asked m of most rows.items)
+answers_page g asked most more tests {old} {new} {result} {sql} front selects near is same finds = record {
   leaves = finds.leaves;
-  answers = λ m k means s. rw is (answered result _ _ (finds.found s.clean) finds.cause
-      (λ rows h. page m k (means (finds.leaves.served s)) rows.items (subst (λ p. Shown sql p (shown_by g old) (shown_by g new) rows.items) same h)));
+  answers = λ m k means s. rw is (answered result _ _ (finds.found s.clean) finds.cause (λ rows h.
+      page_found asked most more tests (shown_by g old) (shown_by g new) m k (means (finds.leaves.served s)) front sql selects near rows.items
+      (subst (λ p. Shown sql p (shown_by g old) (shown_by g new) rows.items) same h)));
 }
 
 -- ---- what one statement finds, and what comes after
 
 abbrev lex : ℕ → ℕ → ℕ → ℕ → ℕ → ℕ → Bool
 lex p t n q u k = nat_lt p q || ((p == q) && (nat_lt t u || ((t == u) && nat_lt n k)))
-
--- nothing comes after itself
-not_itself : (p t n : ℕ) → lex p t n p t n ≡ false
-not_itself p t n = grind (arith, nat_tests)
-
--- what comes after another doesn't come before it
-not_back : (p t n q u k : ℕ) → lex p t n q u k ≡ true → lex q u k p t n ≡ false
-not_back p t n q u k h = grind (arith, nat_tests)
 
 -- what comes after what comes after comes after
 through : (p t n q u k r v l : ℕ) → lex p t n q u k ≡ true → lex q u k r v l ≡ true → lex p t n r v l ≡ true
@@ -367,9 +320,11 @@ amid P (y ∷ ys) x zs all = amid P ys x zs all.1
 
 -- in a list in order, what is worse than one job is the rest behind it
 behind_it : (ys : List Job) (x : Job) (zs : List Job) → IsAscending Goes (ys ++ x ∷ zs) → filter (better x) (ys ++ x ∷ zs) ≡ zs
-behind_it [] x zs up = rw (not_itself x.priority x.tts x.number) (filter_all (better x) zs up.0)
+behind_it [] x zs up = let itself : better x x ≡ false = grind (arith, nat_tests) in rw itself (filter_all (better x) zs up.0)
 behind_it (y ∷ ys) x zs up =
-    rw (not_back y.priority y.tts y.number x.priority x.tts x.number (amid (Goes y) ys x zs up.0)) (behind_it ys x zs up.1)
+    let goes = amid (Goes y) ys x zs up.0 in
+    let back : better x y ≡ false = grind (arith, nat_tests) in
+    rw back (behind_it ys x zs up.1)
 
 -- where a list in order, behind a front, goes to a job and then on, the rest is what is behind this job
 rest_behind : (f : Front) (all ys : List Job) (x : Job) (rest : List Job) → IsAscending Goes all → filter (is_behind f) all ≡ (ys ++ x ∷ []) ++ rest → filter (is_behind (front_of (prospect (fields_of x)))) all ≡ rest
@@ -415,7 +370,9 @@ module _ (db : Database) (m : Queue) (k : Ledger) (means : TablesMean db m k) (a
 
     -- the jobs asked for, in this reading, stand with the better before the worse
     up : IsAscending Goes h.all
-    up = subst (IsAscending Goes) (sym (one_asked db m k means asked h.all h.waiting)) (asked_in_order db m k means asked)
+    up = subst (IsAscending Goes) (sym (one_asked db m k means asked h.all h.waiting))
+        (ascending-filter Goes (is_other asked.but) (all_wait db m k means asked.t)
+        (ascending_weaker Comes Goes (λ a b e. sym (by_less a b) ∙ ap is_lt e) _ (come db m k means asked.t)))
 
     -- they are those given and those behind the front
     left : h.all ≡ given ++ filter (is_behind f) h.all
@@ -490,10 +447,6 @@ ends : {X : Type 0} (xs : List X) → (xs ≡ []) ⊎ ((ys : List X) × (x : X) 
 ends [] = inl refl
 ends (x ∷ xs) = elim (ends xs) [ inl none ↦ inr ([], x, ap (λ l. x ∷ l) none) | inr more ↦ inr (x ∷ more.0, more.1, ap (λ l. x ∷ l) more.2) ]
 
--- the place one before the length has the last element
-last_of : {X : Type 0} (xs : List X) (x : X) → slice_get (xs ++ x ∷ []) (length (xs ++ x ∷ []) - 1) ≡ Some x
-last_of xs x = slice_get_read (xs ++ x ∷ []) _ _ x refl (omega (arith, length_push xs x)) (sym (get_or_push xs x x _ (omega (arith, length_push xs x))))
-
 -- rows with no last one are none
 pub page_empty : (rows : List Row) → None ≡ slice_get rows (length rows - 1) → rows ≡ []
 page_empty [] none = refl
@@ -507,7 +460,9 @@ page_ends rows jobs row is last = elim (ends jobs) [
     it.0,
     it.1,
     it.2,
-    same_Some row (shown it.1) (last ∙ ap (λ (xs : List Row). slice_get xs (length xs - 1)) (is ∙ ap (map shown) it.2 ∙ map-append shown it.0 (it.1 ∷ [])) ∙ last_of (map shown it.0) (shown it.1)),
+    same_Some row (shown it.1) (last ∙ ap (λ (xs : List Row). slice_get xs (length xs - 1)) (is ∙ ap (map shown) it.2 ∙ map-append shown it.0 (it.1 ∷ [])) 
+        ∙ (let push = length_push (map shown it.0) (shown it.1) in
+        slice_get_read (map shown it.0 ++ shown it.1 ∷ []) _ _ (shown it.1) refl (omega (arith, push)) (sym (get_or_push (map shown it.0) (shown it.1) (shown it.1) _ (omega (arith, push)))))),
   )
 ]
 
@@ -579,16 +534,24 @@ module _ (db : Database) (m : Queue) (k : Ledger) (means : TablesMean db m k) (a
 -- ---- what a refusal leaves
 
 -- one that is passed on says nothing of an answer, and is for want of the store alone where that was
-module _ {S Z A : Type 0} (g : Ghosts S) {old new : Candidates S (IntoIter Row Z) Asked} {fault : StoreFault} (same : new.store.ghost_name ≡ old.store.ghost_name)
-    (asked : new.asked ≡ old.asked) (leaves : Looks g old.store.now new.store.now)
+module _ {S Z A : Type 0} (g : Ghosts S) {old new : Candidates S (IntoIter Row Z) Asked} {fault : StoreFault}
+    (same : new.store.ghost_name ≡ old.store.ghost_name) (asked : new.asked ≡ old.asked) (leaves : Looks g old.store.now new.store.now)
     (why : (m : Queue) (k : Ledger) (given : List Job) → Means (shown_by g old.store.now) m k → Serves (shown_by g new.store.now)
     → StandsAt old.asked m given (into_iter_items old.page) old.front old.most → fault ≡ Unavailable) where
-  pub advances_err : {Finds : Queue → List Job → A → Type 0} (result : Result A StoreFault) → IsErrAnd result (λ e. e ≡ fault) → Advances g old new result Finds
+  pub advances_err : {Finds : Queue → List Job → A → Type 0} (result : Result A StoreFault) → IsErrAnd result (λ e. e ≡ fault)
+      → Advances g old new result Finds
   advances_err (Ok a) told = absurd told
-  advances_err (Err e) told = record { same_reference = same; leaves = leaves; opens = tt; asked = asked; found = λ m k given means s stands. told ∙ why m k given means s stands }
+  advances_err (Err e) told = record {
+    same_reference = same;
+    leaves = leaves;
+    opens = tt;
+    asked = asked;
+    found = λ m k given means s stands. told ∙ why m k given means s stands;
+  }
 
   pub reaches_err : {IsEnd : A → Type 0} {Finds : Queue → List Job → A → Type 0} (result : Result A StoreFault) → IsErrAnd result (λ e. e ≡ fault)
       → Reaches g old new result IsEnd Finds
   reaches_err (Ok a) told = absurd told
-  reaches_err (Err e) told =
-      record { same_reference = same; leaves = leaves; opens = tt; none = tt; asked = asked; found = λ m k given means s stands. told ∙ why m k given means s stands }
+  reaches_err {Finds = Finds} (Err e) told =
+      let advances = advances_err {Finds = Finds} (Err e) told in
+      record { same_reference = same; leaves = leaves; opens = tt; none = tt; asked = asked; found = advances.found }

@@ -1,14 +1,9 @@
 -- How many grants are open to a number, after a change of the queue.
-use Rattle.std.proofs.Common.{◌≡◌, ◌⊎◌, inl, inr, ℕ, pos, ◌+◌, ◌-◌, ◌<◌, ◌≤◌, ◌^◌, List, [], ◌∷◌, map, filter, length, cond, if◌then◌else◌, Bool, true, false, ◌&&◌, Option, Some, None, refl, sym, ap, ap₂, subst, ◌∙◌, arith}
+use Rattle.std.proofs.Common.{◌≡◌, ◌⊎◌, inl, inr, ℕ, pos, ◌+◌, ◌-◌, ◌<◌, ◌≤◌, ◌^◌, List, [], ◌∷◌, map, filter, length, cond, if◌then◌else◌, Bool, true, false, ◌&&◌, Option, Some, None, refl, sym, ap, ap₂, subst, ◌∙◌, arith, find, ◌==◌, nat_lt, option_map, int_cmp, bytes_eq, Less}
 use Rattle.fax_store.specs.Grant.{with_count}
 use Rattle.std.proofs.lemmas.Option.{same_Some}
-use Rattle.std.specs.Prelude.{find, ◌==◌, nat_lt}
-use Rattle.std.specs.Option.{option_map}
-use Rattle.std.specs.Ordering.{int_cmp}
 use Rattle.std.specs.Cmp as cmp
-use Rattle.std.specs.Str.{bytes_eq}
 use Rattle.std.proofs.lemmas.Slice.Eq.{bytes_eq-Decides}
-use Rattle.std.specs.declared.cmp.Ordering.TheVariants.{Less}
 use Rattle.std.proofs.lemmas.Bool.{cases_Bool, eqb-true, eq-eqb, both_ways, cond_both, false_from_ne_true, true≢false}
 use Rattle.std.proofs.lemmas.Bool.Decides.{nat_tests}
 use Rattle.std.proofs.lemmas.List.Elements.{All-from_recursion, recursion_from_All}
@@ -231,7 +226,8 @@ few last low (g ∷ gs) rise within base =
     let first = within g (inl refl) in
     let rest = few last (low + 1) gs rise.1
     (λ x has.
-    let more = lower g.number x.number (all_has (λ r. value_cmp (rowid (grant_row g)) (rowid r) ≡ Less) (map grant_row gs) (grant_row x) rise.0 (mapped_has grant_row gs x has)) in
+    let more = lower g.number x.number
+    (all_has (λ r. value_cmp (rowid (grant_row g)) (rowid r) ≡ Less) (map grant_row gs) (grant_row x) rise.0 (mapped_has grant_row gs x has)) in
     (omega (arith, more, first.0), (within x (inr has)).1))
     (omega (arith, first.0, first.1)) in
     omega (arith, rest)

@@ -1,8 +1,7 @@
 -- What the texts on floors, and on the replies that a client gives up, leave; and such replies, some at a time.
-use Rattle.std.proofs.Common.{◌≡◌, ◌≤◌, ◌<◌, ◌^◌, ℕ, zero, suc, List, [], ◌∷◌, map, filter, drop, false, not, ◌&&◌, Option, MatchOption, refl, sym, ap, ap₂, subst, ◌∙◌, arith, Bool, true, Ok, Err, Result, is_err}
+use Rattle.std.proofs.Common.{◌≡◌, ◌≤◌, ◌<◌, ◌^◌, ℕ, zero, suc, List, [], ◌∷◌, map, filter, drop, false, not, ◌&&◌, Option, MatchOption, refl, sym, ap, ap₂, subst, ◌∙◌, arith, Bool, true, Ok, Err, Result, is_err, bytes_eq, IfErr, IsErrAnd, nat_le}
 use Rattle.sqlite_trees.proofs.ListLemmas.{filter-filter}
 use Rattle.std.proofs.Math.Bool.{and-true}
-use Rattle.std.specs.Str.{bytes_eq}
 use Rattle.std.proofs.lemmas.Bool.{cond_both}
 use Rattle.std.proofs.lemmas.Slice.Eq.{bytes_eq-Decides}
 use Rattle.sqlite.specs.Cast.{cast_row}
@@ -32,7 +31,6 @@ use Rattle.fax_tables.specs.Tables.{AreCounted, AreLawfulFloors, TablesMean}
 use Rattle.fax_tables.proofs.TablesLemmas.{AreColumns, AreFloors, by_rowid_put, calls_of, floors_changed, means_of, parts_of, replies_changed}
 use Rattle.fax_store.specs.Store.{FindsRow, HasRun}
 use Rattle.fax_store.proofs.CallLemmas.{beside, counted_found, is_asked, left_without, params}
-use Rattle.std.specs.Prelude.{IfErr, IsErrAnd, nat_le}
 use Rattle.std.proofs.lemmas.Bool.Decides.{nat_tests}
 use Rattle.sqlite_trees.specs.declared.store.Store.{Ghosts}
 use Rattle.fax_store.specs.Calls.{Finds, Writes, shown}
@@ -159,10 +157,12 @@ module _ {S : Type 0} (g : Ghosts S) {client : List ℕ} {floor : ℕ} where
   }
 
   -- a reading takes none away
-  pub thins_none : {old new : Store S} {A : Type 0} (result : Result A StoreFault) → Finds g old new result → IfErr result (λ fault. fault ≡ Unavailable) → Thins g client floor old new result
+  pub thins_none : {old new : Store S} {A : Type 0} (result : Result A StoreFault) → Finds g old new result → IfErr result (λ fault. fault ≡ Unavailable)
+      → Thins g client floor old new result
   thins_none {old} {new} result finds cause = record {
     leaves = runs_of g finds;
-    written = λ m₀ m k₀ k works s. (k, refl, kept m₀ m k₀ k result cause (keeps_by (shown g old) (shown g new) finds.served result finds.reads m₀ m k₀ k works s));
+    written = λ m₀ m k₀ k works s. let after = keeps_by (shown g old) (shown g new) finds.served result finds.reads m₀ m k₀ k works s in
+        (k, refl, kept m₀ m k₀ k result cause after);
   }
     where
       kept : (m₀ m : Queue) (k₀ k : Ledger) {A : Type 0} (r : Result A StoreFault) → IfErr r (λ fault. fault ≡ Unavailable)
@@ -171,16 +171,16 @@ module _ {S : Type 0} (g : Ghosts S) {client : List ℕ} {floor : ℕ} where
       kept m₀ m k₀ k (Err e) cause after = (cause, after.began)
 
   -- those through a lower number are some of them
-  pub thins_lower : {old new : Store S} {A : Type 0} {result : Result A StoreFault} (last : ℕ) → last ≤ floor → Writes g old new result (λ m. m) (without_replies client last)
-      → Thins g client floor old new result
+  pub thins_lower : {old new : Store S} {A : Type 0} {result : Result A StoreFault} (last : ℕ) → last ≤ floor
+      → Writes g old new result (λ m. m) (without_replies client last) → Thins g client floor old new result
   thins_lower last under writes = record {
     leaves = writes.leaves;
     written = λ m₀ m k₀ k works s. (without_replies client last k, without_lower client last floor k under, writes.written m₀ m k₀ k works s);
   }
 
   -- so does what comes behind it
-  pub thins_then : {old mid new : Store S} {A B : Type 0} {a : A} {result : Result B StoreFault} → Thins g client floor old mid (Ok a) → Thins g client floor mid new result
-      → Thins g client floor old new result
+  pub thins_then : {old mid new : Store S} {A B : Type 0} {a : A} {result : Result B StoreFault} → Thins g client floor old mid (Ok a)
+      → Thins g client floor mid new result → Thins g client floor old new result
   thins_then first next = record {
     leaves = runs_then g first.leaves next.leaves;
     written = λ m₀ m k₀ k works s.
@@ -196,8 +196,8 @@ module _ {S : Type 0} (g : Ghosts S) {client : List ℕ} {floor : ℕ} where
     written = thins.written;
   }
 
-  pub thins_err : {old new : Store S} {A B : Type 0} {e : StoreFault} (result : Result B StoreFault) → IsErrAnd result (λ f. f ≡ e) → Thins g client floor {A = A} old new (Err e)
-      → Thins g client floor old new result
+  pub thins_err : {old new : Store S} {A B : Type 0} {e : StoreFault} (result : Result B StoreFault) → IsErrAnd result (λ f. f ≡ e)
+      → Thins g client floor {A = A} old new (Err e) → Thins g client floor old new result
   thins_err (Ok b) is thins = absurd is
   thins_err (Err f) is thins = record {
     leaves = record { served = thins.leaves.served; clean = thins.leaves.clean; holds = thins.leaves.holds; crash = thins.leaves.crash };

@@ -1,6 +1,5 @@
 -- What a look-up tells of the rows, whatever they say: a row is found and read, or none is.
-use Rattle.std.proofs.Common.{◌≡◌, ℕ, List, [], ◌∷◌, map, filter, true, false, ◌&&◌, Some, None, length, suc, take, sym, ap, subst, ◌∙◌, Ok, Err, Option, Result, IfOk, IfSome, IsErrAnd, refl, drop}
-use Rattle.std.specs.List.Sorted.{IsPermutation}
+use Rattle.std.proofs.Common.{◌≡◌, ℕ, List, [], ◌∷◌, map, filter, true, false, ◌&&◌, Some, None, length, suc, take, sym, ap, subst, ◌∙◌, Ok, Err, Option, Result, IfOk, IfSome, IsErrAnd, refl, drop, IsPermutation, option_map}
 use Rattle.std.proofs.lemmas.Bool.{and_parts, both_ways}
 use Rattle.sqlite.specs.Effect.{Database}
 use Rattle.sqlite.specs.Order.{Row, column}
@@ -22,7 +21,6 @@ use Rattle.fax_schema.proofs.StatementForms.{Selects}
 use Rattle.fax_store.specs.Store.{FindsRow, HasRow}
 use Rattle.fax_tables.specs.Row.{HasValues, number}
 use Rattle.fax_tables.proofs.RowLemmas.{first_from}
-use Rattle.std.specs.Option.{option_map}
 use Rattle.sqlite_trees.specs.declared.store.Store.{Ghosts}
 use Rattle.fax_core.specs.Ledger.{Ledger}
 use Rattle.fax_core.specs.Queue.{Queue}

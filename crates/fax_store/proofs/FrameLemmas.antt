@@ -240,7 +240,8 @@ module _ {S : Type 0} (g : Ghosts S) where
   after old next failed = record { store = record old.store { now = next }; failed = failed }
 
   -- where no call was refused before, a call of its store is one of the work
-  module _ {old : Work S} {next : Store S} {failed : Bool} {A : Type 0} {result : Result A StoreFault} (on : old.failed ≡ false) (fails : failed ≡ is_err result) where
+  module _ {old : Work S} {next : Store S} {failed : Bool} {A : Type 0} {result : Result A StoreFault}
+      (on : old.failed ≡ false) (fails : failed ≡ is_err result) where
     pub calls_by : Runs g old.store.now next result → Calls g old (after old next failed) result
     calls_by runs = record {
       same_reference = refl;
@@ -253,7 +254,8 @@ module _ {S : Type 0} (g : Ghosts S) where
     }
 
     -- and so is a reading
-    pub tells_by : {P : Queue → Ledger → A → Type 0} → Finds g old.store.now next result → Answers g old.store.now next result P → Tells g old (after old next failed) result P
+    pub tells_by : {P : Queue → Ledger → A → Type 0} → Finds g old.store.now next result → Answers g old.store.now next result P
+        → Tells g old (after old next failed) result P
     tells_by {P} finds answers = record {
       leaves = calls_by (runs_of finds);
       keeps = rw (on, fails) (keeps_by (shown g old.store.now) (shown g next) finds.served result finds.reads);

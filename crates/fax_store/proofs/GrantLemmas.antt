@@ -1,7 +1,5 @@
 -- What the texts on grants and holds read and write.
-use Rattle.std.proofs.Common.{◌≡◌, ℕ, [], ◌∷◌, Option, Some, None, drop, refl, ◌≤◌, inl, inr, pos, List, ◌++◌, map, filter, Bool, true, false, not, ◌&&◌, Err, if◌then◌else◌, IsTrue, cond, sym, ap, ap₂, subst, ◌∙◌, ◌+◌, ◌-◌, arith}
-use Rattle.std.specs.Option.{option_map}
-use Rattle.std.specs.Prelude.{◌==◌, find}
+use Rattle.std.proofs.Common.{◌≡◌, ℕ, [], ◌∷◌, Option, Some, None, drop, refl, ◌≤◌, inl, inr, pos, List, ◌++◌, map, filter, Bool, true, false, not, ◌&&◌, Err, if◌then◌else◌, IsTrue, cond, sym, ap, ap₂, subst, ◌∙◌, ◌+◌, ◌-◌, arith, option_map, ◌==◌, find, IsPermutation, bytes_eq, is_eq}
 use Rattle.sqlite.specs.Effect.{Database, IsDatabase}
 use Rattle.sqlite.specs.Order.{Row, column}
 use Rattle.sqlite.specs.State.{State, Executes}
@@ -26,7 +24,6 @@ use Rattle.fax_tables.proofs.KeyLemmas.{found_holds, numbered_found, only_number
 use Rattle.fax_schema.proofs.SelectLemmas.{passes, show, answers}
 use Rattle.std.proofs.lemmas.Option.{same_Some}
 use Rattle.std.proofs.Math.Bool.{and-true}
-use Rattle.std.specs.List.Sorted.{IsPermutation}
 use Rattle.std.proofs.lemmas.Bool.{cases_Bool, eqb-true, eq-eqb, false_from_ne_true, cond_both, and_parts, both_ways, not-true}
 use Rattle.std.proofs.lemmas.List.Sorted.{IsPermutation-sym, IsPermutation-trans, IsPermutation-cons, IsPermutation-to_front, IsPermutation-map}
 use Rattle.sqlite.specs.Cast.{cast_row}
@@ -55,20 +52,17 @@ use Rattle.fax_tables.specs.declared.fault.StoreFault.TheVariants.{Unavailable}
 use Rattle.sqlite.specs.declared.error.Error.{Error}
 use Rattle.sqlite_schema.specs.Rules.{Keeps, equal, clashes}
 use Rattle.sqlite_value.specs.Keys.{plain}
-use Rattle.std.specs.Str.{bytes_eq}
 use Rattle.fax_tables.proofs.TablesLemmas.{AreRecords, AreHeld, Parts, grants, holds, parts_of, means_of, calls_as, calls_changed, calls_of, held_as, grants_changed, holds_changed, by_rowid_put}
 use Rattle.fax_schema.proofs.UpdateLemmas.{gone_project, updated, deleted}
 use Rattle.fax_schema.proofs.WriteLemmas.{KeepsOthers, unreferred, inserts}
 use Rattle.fax_store.proofs.KeptLemmas.{find_none, find_some, one_row}
-use Rattle.std.specs.Ordering.{is_eq, nat_cmp}
 use Rattle.std.proofs.lemmas.Slice.Eq.{bytes_eq-Decides}
 use Rattle.sqlite.specs.Collation.TheVariants.{Binary}
 use Rattle.sqlite.specs.declared.types.Value.{Value}
 use Rattle.sqlite_schema.specs.declared.schema.Constraint.TheVariants.{Unique}
-use Rattle.sqlite_sql.specs.Ops.{binary, is_null}
+use Rattle.sqlite_sql.specs.Ops.{binary}
 use Rattle.sqlite_sql.specs.Term.{Term}
 use Rattle.sqlite_sql.specs.declared.ops.CompareOp.TheVariants.{Eq}
-use Rattle.sqlite_value.specs.Order.{class}
 use Rattle.sqlite_value.proofs.KeyLemmas.{first_key-plain}
 use Rattle.sqlite_value.proofs.OrderLemmas.{value_cmp-apart}
 use Rattle.fax_tables.specs.declared.grants.Hold.{Hold}
@@ -119,12 +113,6 @@ module _ (g : Grant) where
   stored_hold : cast_row schema.holds (Null ∷ hold_columns g) ≡ Null ∷ hold_columns g
   stored_hold = same_row cast_null (same_row refl (same_row (cast_int (pos g.job)) (same_row (cast_int (pos g.number)) refl)))
 
-  -- the open grants with it
-  open_placed : (gs : List Grant) → IsTrue g.is_open → IsPermutation (g ∷ filter (λ x. x.is_open) gs) (filter (λ x. x.is_open) (placed (λ (x : Grant). x.number) g gs))
-  open_placed gs is_open =
-      let both = IsPermutation-filter (λ (x : Grant). x.is_open) (g ∷ gs) (placed (λ (x : Grant). x.number) g gs) (placed_permuted grant_row (λ (x : Grant). x.number) (λ x. refl) g gs) in
-      subst (λ (b : Bool). IsPermutation (if b then g ∷ filter (λ x. x.is_open) gs else filter (λ x. x.is_open) gs) (filter (λ x. x.is_open) (placed (λ (x : Grant). x.number) g gs))) is_open both
-
   -- the row of an open grant ends with a 0
   open_row : IsTrue g.is_open → grant_row g ≡ number g.number ∷ Null ∷ number g.job ∷ Text g.modem ∷ number g.first_page ∷ number g.last_page ∷ number (call_number g.call) ∷ number g.confirmed ∷ number 0 ∷ []
   open_row is_open = rw is_open refl
@@ -162,9 +150,12 @@ module _ (g : Grant) where
           lawful = all_placed grant_row (λ (x : Grant). x.number) (λ x. refl) IsLawfulGrant g m.grants lawful (was.says grants).lawful;
         } in
         let after = grants_changed mid new m (g ∷ open_grants m) (calls_of m) k was done.keeps (placed (λ (x : Grant). x.number) g m.grants) now in
+        let both = IsPermutation-filter (λ (x : Grant). x.is_open) (g ∷ m.grants) (placed (λ (x : Grant). x.number) g m.grants)
+        (placed_permuted grant_row (λ (x : Grant). x.number) (λ x. refl) g m.grants) in
+        let opened = subst (λ (b : Bool). IsPermutation (if b then g ∷ open_grants m else open_grants m) (open_grants (with_placed g m))) is_open both in
         let stand : AreHeld (new.now.trees holds_tree) (open_grants (with_placed g m)) = record {
           is = IsPermutation-trans (map hold_columns (open_grants (with_placed g m))) (map hold_columns (g ∷ open_grants m)) (map (drop 1) (new.now.trees holds_tree))
-              (IsPermutation-map hold_columns (open_grants (with_placed g m)) (g ∷ open_grants m) (IsPermutation-sym (g ∷ open_grants m) (open_grants (with_placed g m)) (open_placed m.grants is_open))) (after.says holds).is;
+              (IsPermutation-map hold_columns (open_grants (with_placed g m)) (g ∷ open_grants m) (IsPermutation-sym (g ∷ open_grants m) (open_grants (with_placed g m)) opened)) (after.says holds).is;
           ordered = (after.says holds).ordered;
         } in
         held_as new.now (with_placed g m) (g ∷ open_grants m) (open_grants (with_placed g m)) (calls_of m) k stand after
@@ -197,20 +188,16 @@ module _ (g : Grant) where
         (ap (λ r. r ∷ []) (sym (open_row is_open))) (ap (with_rowid Chosen (mid.now.trees grants_tree)) (stored_grant g)) may INSERT_GRANT.now insert_grant new
 
   module _ (m : Queue) (have : HaveJobs m) where
-    -- the calls to each number with this one
-    counts_placed : (j : Job) → job_numbered g.job m ≡ Some j → IsTrue g.is_open → (dial : List ℕ) → with_count j.dial (calls_of m j.dial + 1) (calls_of m) dial ≡ calls_of (with_placed g m) dial
-    counts_placed j there is_open =
-        one_more j.dial (calls_of m) (calls_of (with_placed g m)) (λ dial. placed_count (λ x. is_of_number dial (job_numbered x.job m)) g m.grants
-        ∙ ap₂ (λ b o. one (b && is_of_number dial o) + calls_of m dial) is_open there)
-
-    -- once that is counted, the tables mean the queue with the grant
+    -- once the calls to each number are counted with this one, the tables mean the queue with the grant
     pub grant_counted : (new last : State) (k : Ledger) (j : Job) → job_numbered g.job m ≡ Some j → IsTrue g.is_open → Parts new.now (with_placed g m)
         (open_grants (with_placed g m)) (calls_of m) k → SetsCalls new last (with_count j.dial (calls_of m j.dial + 1) (calls_of m))
         → TablesMean last.now (with_placed g m) k
     grant_counted new last k j there is_open was set =
         let after = with_placed g m in
+        let counts = one_more j.dial (calls_of m) (calls_of after) (λ dial. placed_count (λ x. is_of_number dial (job_numbered x.job m)) g m.grants
+        ∙ ap₂ (λ b o. one (b && is_of_number dial o) + calls_of m dial) is_open there) in
         means_of last.now after k jobs
-        (calls_as last.now after (open_grants after) (with_count j.dial (calls_of m j.dial + 1) (calls_of m)) (calls_of after) k (counts_placed j there is_open)
+        (calls_as last.now after (open_grants after) (with_count j.dial (calls_of m j.dial + 1) (calls_of m)) (calls_of after) k counts
         (calls_changed new last after (open_grants after) (calls_of m) k was set.schema_is set.sound set.rows (with_count j.dial (calls_of m j.dial + 1) (calls_of m)) set.calls))
       where
         jobs : HaveJobs (with_placed g m)
@@ -333,27 +320,22 @@ module _ (n : ℕ) where
     only x has is = subst (λ i. find (λ (y : Grant). y.number == i) m.grants ≡ Some x) is (only_numbered grant_row (λ (y : Grant). y.number) (λ y. refl) m.grants x rise has)
 
     -- shutting each grant of the number shuts the one that the number finds, if any
-    closed_by : (o : Option Grant) → grant_numbered n m ≡ o → map shut m.grants ≡ (with_shut o m).grants
+    closed_by : (o : Option Grant) → grant_numbered n m ≡ o → record m { grants = map shut m.grants } ≡ with_shut o m
     closed_by None none =
-        unmoved shut m.grants (λ x has. cond_both (x.number == n) (closed x) x (λ y. y ≡ x)
-        (λ here. absurd (let no = sym none ∙ only x has (eqb-true x.number n here) in cc)) (λ _. refl))
+        ap (λ gs. record m { grants = gs }) (unmoved shut m.grants (λ x has. cond_both (x.number == n) (closed x) x (λ y. y ≡ x)
+        (λ here. absurd (let no = sym none ∙ only x has (eqb-true x.number n here) in cc)) (λ _. refl)))
     closed_by (Some g) its =
         let is = eqb-true g.number n (has_found (λ (y : Grant). y.number == n) m.grants g its).1 in
-        map_same shut (λ x. if x.number == g.number then closed g else x) m.grants (λ x has.
+        ap (λ gs. record m { grants = gs }) (map_same shut (λ x. if x.number == g.number then closed g else x) m.grants (λ x has.
         let same : (x.number == g.number) ≡ (x.number == n) = ap (λ i. x.number == i) is in
         rw same (elim (cases_Bool (x.number == n)) [
           | inl here ↦ rw here (ap closed (same_Some x g (sym (only x has (eqb-true x.number n here)) ∙ its)))
           | inr off ↦ rw off refl
-        ]))
-
-    -- shutting what was found changes the grants alone
-    as_closed : (o : Option Grant) → record m { grants = (with_shut o m).grants } ≡ with_shut o m
-    as_closed None = refl
-    as_closed (Some g) = refl
+        ])))
 
     -- shutting each grant of the number is closing it
     pub closed_is : record m { grants = map shut m.grants } ≡ with_closed n m
-    closed_is = ap (λ gs. record m { grants = gs }) (closed_by (grant_numbered n m) refl) ∙ as_closed (grant_numbered n m)
+    closed_is = closed_by (grant_numbered n m) refl
 
   abbrev pub after : Queue → Queue
   after m = record m { grants = map shut m.grants }
@@ -394,20 +376,16 @@ module _ (n : ℕ) where
         holds_changed mid new (after m) (open_grants m) (calls_of m) k was done.0 (open_grants (after m)) now
 
   module _ (db : Database) (m : Queue) (k : Ledger) (means : TablesMean db m k) where
-    -- the calls to each number without this one
-    counts_closed : (g : Grant) (j : Job) → grant_numbered n m ≡ Some g → g.is_open ≡ true → job_numbered g.job m ≡ Some j → (dial : List ℕ) → with_count j.dial (calls_of m j.dial - 1) (calls_of m) dial ≡ calls_of (after m) dial
-    counts_closed g j found on there =
-        one_less j.dial (calls_of m) (calls_of (after m)) (λ dial. ap (λ o. calls_of (after m) dial + one (is_of_number dial o)) (sym there)
-        ∙ closed_count n (λ x. is_of_number dial (job_numbered x.job m)) g m.grants (subst IsTable means.grants means.ordered.grants.rise) found on)
-
-    -- once it is taken off, the tables mean the queue without the hold
+    -- once it is taken off, the calls to each number are without this one, and the tables mean the queue without the hold
     pub close_counted : (new last : State) (g : Grant) (j : Job) → grant_numbered n m ≡ Some g → g.is_open ≡ true → job_numbered g.job m ≡ Some j
         → Parts new.now (after m) (open_grants (after m)) (calls_of m) k → SetsCalls new last
         (with_count j.dial (calls_of m j.dial - 1) (calls_of m)) → TablesMean last.now (with_closed n m) k
     close_counted new last g j found on there was set =
+        let counts = one_less j.dial (calls_of m) (calls_of (after m)) (λ dial. ap (λ o. calls_of (after m) dial + one (is_of_number dial o)) (sym there)
+        ∙ closed_count n (λ x. is_of_number dial (job_numbered x.job m)) g m.grants (subst IsTable means.grants means.ordered.grants.rise) found on) in
         subst (λ it. TablesMean last.now it k) (closed_is m (subst IsTable means.grants means.ordered.grants.rise))
         (means_of last.now (after m) k (jobs_shut n m means.held)
-        (calls_as last.now (after m) (open_grants (after m)) (with_count j.dial (calls_of m j.dial - 1) (calls_of m)) (calls_of (after m)) k (counts_closed g j found on there)
+        (calls_as last.now (after m) (open_grants (after m)) (with_count j.dial (calls_of m j.dial - 1) (calls_of m)) (calls_of (after m)) k counts
         (calls_changed new last (after m) (open_grants (after m)) (calls_of m) k was set.schema_is set.sound set.rows (with_count j.dial (calls_of m j.dial - 1) (calls_of m)) set.calls)))
 
 -- a grant that is open no more changes nothing where it is closed
@@ -422,15 +400,12 @@ closed_already n g m rise found off = sym (closed_is n m rise) ∙ ap (λ gs. re
 -- ---- a modem stands in one row
 
 module _ (db : Database) (has : db.schema ≡ our_tables) (sound : IsDatabase db) (by : IsByRowid (db.trees holds_tree)) where
-  -- no row of holds clashes with another in its modem
-  no_clash : (r : Row) → Has (db.trees holds_tree) r → clashes plain (1 ∷ []) (db.trees holds_tree) r ≡ false
-  no_clash r there =
-      let keeps : Keeps Unique our_tables db.trees = subst (λ s. Keeps Unique s db.trees) has (sound.obeys.rules Unique) in
-      not-true _ (and_parts (not (clashes plain (1 ∷ []) (db.trees holds_tree) r)) _ (all_has _ (db.trees holds_tree) r keeps.1.1.0 there)).0
-
-  -- a modem stands in one row of holds
+  -- no row of holds clashes with another in its modem, so a modem stands in one row
   pub one_of_modem : (modem : List ℕ) (r s : Row) → Has (db.trees holds_tree) r → Has (db.trees holds_tree) s → column r 1 ≡ Text modem → column s 1 ≡ Text modem → s ≡ r
-  one_of_modem modem r s there also of_r of_s = one_row (db.trees holds_tree) by (1 ∷ []) r s there also (no_clash r there)
+  one_of_modem modem r s there also of_r of_s =
+      let keeps : Keeps Unique our_tables db.trees = subst (λ s. Keeps Unique s db.trees) has (sound.obeys.rules Unique) in
+      let alone = not-true _ (and_parts (not (clashes plain (1 ∷ []) (db.trees holds_tree) r)) _ (all_has _ (db.trees holds_tree) r keeps.1.1.0 there)).0 in
+      one_row (db.trees holds_tree) by (1 ∷ []) r s there also alone
       (ap (λ key. equal key.collation (column s 1) (column r 1) && true) first_key-plain
       ∙ ap₂ (λ a b. equal Binary a b && true) of_s of_r ∙ ap (λ b. b && true) (equal_texts modem modem ∙ (bytes_eq-Decides modem modem).1 refl))
 
@@ -443,15 +418,11 @@ null_apart : (t : List ℕ) → are_equal Null (Text t) ≡ false
 unfolding binary
 null_apart t = refl
 
--- no value of another class is
-class_apart : (v : Value) (t : List ℕ) → is_null v ≡ false → (class v ≡ 2 → ⊥) → is_eq (nat_cmp (class v) 2) ≡ false → are_equal v (Text t) ≡ false
-class_apart v t whole apart other = compared Eq v (Text t) whole refl ∙ ap is_eq (value_cmp-apart v (Text t) apart) ∙ other
-
--- only the text itself is
+-- nor is a value of another class, but only the text itself
 pub text_same : (v : Value) (t : List ℕ) → are_equal v (Text t) ≡ true → v ≡ Text t
 text_same Null t h = absurd (both_ways _ (null_apart t) h)
 text_same (Text s) t h = ap Text ((bytes_eq-Decides s t).0 (sym (equal_texts s t) ∙ h))
-text_same other t h = absurd (both_ways _ (class_apart other t refl (λ e. omega arith) refl) h)
+text_same other t h = absurd (both_ways _ (compared Eq other (Text t) refl refl ∙ ap is_eq (value_cmp-apart other (Text t) (λ e. omega arith))) h)
 
 module _ (modem : List ℕ) where
   abbrev pub modem_params : Row
@@ -460,10 +431,6 @@ module _ (modem : List ℕ) where
   -- the row that passes is that of the grant which the modem holds
   is_asked : (project : List Term) (r : Row) (g : Grant) → drop 1 r ≡ hold_columns g → passes holds_tree hold_tests project modem_params r ≡ bytes_eq g.modem modem
   is_asked project r g is = ap (passes holds_tree hold_tests project modem_params) (with_id r _ _ is) ∙ and-true (are_equal (Text g.modem) (Text modem)) ∙ equal_texts g.modem modem
-
-  -- the row of a hold is shown as its grant and job
-  shown_as : (r : Row) (g : Grant) → drop 1 r ≡ hold_columns g → show holds_tree hold_tests hold_project modem_params r ≡ hold_shown g
-  shown_as r g is = ap (show holds_tree hold_tests hold_project modem_params) (with_id r _ _ is)
 
   -- the row of a grant of this modem names it
   modem_of : (r : Row) (g : Grant) → drop 1 r ≡ hold_columns g → bytes_eq g.modem modem ≡ true → column r 1 ≡ Text modem
@@ -484,15 +451,10 @@ module _ (modem : List ℕ) where
         let held = has_found (λ (g : Grant). bytes_eq g.modem modem) (open_grants m) one.0 one.1 in
         let its = row_of hold_columns (old.now.trees holds_tree) (open_grants m) means.holds one.0 held.0 in
         let same = one_of_modem old.now means.schema means.sound means.ordered.holds modem its.0 shown.0 its.1 shown.1 (modem_of its.0 one.0 its.2 held.1) (modem_of shown.0 it.0 it.2 on) in
-        ap Some (shown.3 ∙ shown_as shown.0 one.0 (ap (drop 1) same ∙ its.2)) ∙ sym (ap (option_map hold_shown) one.1)
+        ap Some (shown.3 ∙ ap (show holds_tree hold_tests hold_project modem_params) (with_id shown.0 _ _ (ap (drop 1) same ∙ its.2)))
+        ∙ sym (ap (option_map hold_shown) one.1)
 
   module _ (old new : State) (db : Database) (ours : db.schema ≡ our_tables) (now : old.now ≡ db) where
-    -- whatever the rows say, where none is found no row has the modem
-    pub no_hold : FindsRow SELECT_HOLD.now modem_params old new None → ¬ HasHoldRow db modem
-    no_hold =
-        none_keyed SELECT_HOLD.now holds_tree hold_tests hold_project _ select_hold (λ trees. refl) modem_params old new db ours now
-        1 (Text modem) (λ r. refl) (equal_texts modem modem ∙ (bytes_eq-Decides modem modem).1 refl)
-
     -- the hold that is read of the row that is found stands in a row
     pub hold_stands : (row : Row) (h : Hold) → FindsRow SELECT_HOLD.now modem_params old new (Some row) → HasValues row 0 (held_shown h) → HoldStands db modem h
     hold_stands row h found has =
@@ -506,5 +468,7 @@ module _ {S : Type 0} (g : Ghosts S) (modem : List ℕ) (old new : Store S) wher
   hold_keys = record {
     found = hold_found modem (shown g old) (shown g new);
     lawful = λ m k means held. found_holds IsLawfulGrant (λ (one : Grant). bytes_eq one.modem modem) (open_grants m) held (all_kept IsLawfulGrant (λ (one : Grant). one.is_open) m.grants means.lawful.grants);
-    none = no_hold modem (shown g old) (shown g new);
+    none = λ db ours now.
+        none_keyed SELECT_HOLD.now holds_tree hold_tests hold_project _ select_hold (λ trees. refl) (modem_params modem) (shown g old) (shown g new) db ours now
+        1 (Text modem) (λ r. refl) (equal_texts modem modem ∙ (bytes_eq-Decides modem modem).1 refl);
   }

@@ -1,7 +1,5 @@
 -- What the texts on jobs read and write.
-use Rattle.std.proofs.Common.{◌≡◌, ℕ, zero, suc, pos, ◌+◌, ◌-◌, ◌≤◌, List, [], ◌∷◌, ◌++◌, map, arith, false, Option, Some, None, Err, drop, refl, sym, ap, ap₂, subst, ◌∙◌, ◌<◌, inl, inr, All, Bool, true, ◌&&◌, ◌||◌, unwrap_or, if◌then◌else◌}
-use Rattle.std.specs.Option.{option_map}
-use Rattle.std.specs.Prelude.{◌==◌, IsTrue, is_some, find, nat_le}
+use Rattle.std.proofs.Common.{◌≡◌, ℕ, zero, suc, pos, ◌+◌, ◌-◌, ◌≤◌, List, [], ◌∷◌, ◌++◌, map, arith, false, Option, Some, None, Err, drop, refl, sym, ap, ap₂, subst, ◌∙◌, ◌<◌, inl, inr, All, Bool, true, ◌&&◌, ◌||◌, unwrap_or, if◌then◌else◌, option_map, ◌==◌, IsTrue, is_some, find, nat_le, IsUtf8}
 use Rattle.std.specs.List.{range_with_len}
 use Rattle.std.proofs.lemmas.List.FromFn.{length-range_with_len}
 use Rattle.sqlite.specs.Effect.{Database}
@@ -49,7 +47,6 @@ use Rattle.fax_schema.proofs.StatementForms.{Selects}
 use Rattle.sqlite_sql.specs.Term.{Term}
 use Rattle.fax_schema.proofs.StatementTexts.{brief_names, brief_project, job_names, job_project, job_terms, job_tests, select_brief, select_job, insert_job, change_project, update_job, expired_tests, expired_project, expire_jobs, killtime_project, select_expired}
 use Rattle.std.proofs.Math.Bool.{and-true}
-use Rattle.std.specs.Str.{IsUtf8}
 use Rattle.std.proofs.lemmas.Bool.{and_parts, eqb-true, eq-eqb, cond_both, cases_Bool}
 use Rattle.std.proofs.lemmas.List.Elements.{All-from_recursion, All-map, recursion_from_All}
 use Rattle.sqlite_rules.proofs.ListLemmas.{all_from, all_has}
@@ -224,12 +221,7 @@ module _ (f : JobFields) (lines : List Pair) where
   written : (x : Job) → x.number ≡ f.job → KeepsOrder x → cast_row schema.jobs (drop 1 (show jobs_tree job_tests change_project (change_params f) (row_of x))) ≡ job_row whole
   written x is same = rw (is, same.order.dial, same.order.totpages, same.extra) (stored_job whole)
 
-  -- a job that is put in place keeps the rowid
-  put_number : (x : Job) → rowid (row_of (put x)) ≡ rowid (row_of x)
-  put_number x = cond_both (x.number == f.job) (job_of whole) x (λ y. rowid (row_of y) ≡ rowid (row_of x))
-      (λ same. ap number (sym (eqb-true x.number f.job same))) (λ _. refl)
-
-  -- and its number
+  -- a job that is put in place keeps its number
   same_number : (x : Job) → (put x).number ≡ x.number
   same_number x = cond_both (x.number == f.job) (job_of whole) x (λ y. y.number ≡ x.number) (λ same. sym (eqb-true x.number f.job same)) (λ _. refl)
 
@@ -270,7 +262,7 @@ module _ (f : JobFields) (old new : State) (m : Queue) (k : Ledger) (means : Tab
       let is_number = asked_is row_of (λ (j : Job). j.number) (λ j. refl) f.job (passes jobs_tree job_tests change_project (change_params f)) (λ r. refl) in
       let is_other = not_asked row_of (λ (j : Job). j.number) (λ j. refl) f.job (passes jobs_tree job_tests change_project (change_params f)) (λ r. refl) in
       let done = updated schema.jobs.name 0 schema.jobs.columns schema.jobs.key schema.jobs.primary schema.jobs.uniques schema.jobs.orders schema.jobs.checks 0 refl old new means.schema refl means.ordered.jobs
-      job_tests change_project (change_params f) (λ r. refl) _ h.0 row_of placed m.jobs means.jobs (put_number f its_lines)
+      job_tests change_project (change_params f) (λ r. refl) _ h.0 row_of placed m.jobs means.jobs (λ x. ap number (same_number f its_lines x))
       (λ x has on. let is = is_number x on in written f its_lines x is (same x has is)
       ∙ rw (eq-eqb x.number f.job is) (sym (ap job_row (fields_back (whole f its_lines)))))
       (λ x has off. rw (is_other x off) refl)
@@ -343,7 +335,8 @@ module _ (phase : Phase) (t : ℕ) where
         let shown = show jobs_tree expired_tests killtime_project expired_params in
         let rows = answers jobs_tree expired_tests killtime_project expired_params old.now (old.now.trees jobs_tree) refl [] h.0
         (reads_as SELECT_EXPIRED.now expired_params old new our_tables means.schema _ select_expired.command select_expired.plain select_expired.unlisted h.0 h.1) in
-        ap (λ jobs. record m { jobs = jobs }) (unmoved (expired_in phase t) m.jobs (λ x has. rw (sym (expiring x) ∙ none_shown is_asked shown (old.now.trees jobs_tree) h.0 rows h.2 (row_of x)
+        ap (λ jobs. record m { jobs = jobs }) (unmoved (expired_in phase t) m.jobs (λ x has.
+        rw (sym (expiring x) ∙ none_shown is_asked shown (old.now.trees jobs_tree) h.0 rows h.2 (row_of x)
         (subst (λ table. Has table (row_of x)) (sym means.jobs) (mapped_has row_of m.jobs x has))) refl))
     none_expired (Some row) h e = absurd cc
 

@@ -1,9 +1,6 @@
 -- What the texts on all jobs read, in the one order in which their numbers don't fall, and those on the jobs that wait.
-use Rattle.std.proofs.Common.{◌≡◌, ◌<◌, ◌+◌, ℕ, pos, List, [], map, take, filter, true, nat_lt, get_or, refl, sym, ap, ap₂, subst, ◌∙◌, arith, ◌∷◌, ◌++◌, Bool, not, All, ◌&&◌, ◌||◌, Option, Some, None, unwrap_or}
+use Rattle.std.proofs.Common.{◌≡◌, ◌<◌, ◌+◌, ℕ, pos, List, [], map, take, filter, true, nat_lt, get_or, refl, sym, ap, ap₂, subst, ◌∙◌, arith, ◌∷◌, ◌++◌, Bool, not, All, ◌&&◌, ◌||◌, Option, Some, None, unwrap_or, Ordering, Less, Equal, IsPermutation, IsSorted, IsSortedBy, ◌==◌, nat_le}
 use Rattle.std.specs.Ordering.{is_lt, int_cmp, nat_cmp, on, ordering_then, is_eq, is_gt}
-use Rattle.std.specs.declared.cmp.Ordering.{Ordering}
-use Rattle.std.specs.declared.cmp.Ordering.TheVariants.{Less, Equal}
-use Rattle.std.specs.List.Sorted.{IsPermutation, IsSorted, IsSortedBy}
 use Rattle.std.proofs.lemmas.Bool.Decides.{nat_tests}
 use Rattle.std.proofs.lemmas.Cmp.{nat_cmp_total, on_total}
 use Rattle.std.proofs.Math.ListN.{get_or-map}
@@ -34,7 +31,6 @@ use Rattle.fax_tables.proofs.TablesLemmas.{row_of}
 use Rattle.fax_store.specs.Job.{brief_places, job_places, AreWaiting}
 use Rattle.fax_schema.proofs.StatementTexts.{brief_names, brief_project, job_names, job_project, jobs_order, select_briefs, select_jobs, waiting_tests, waiting_order, select_waiting}
 use Rattle.std.proofs.Math.Bool.{and-true}
-use Rattle.std.specs.Prelude.{◌==◌, nat_le, nat_lt}
 use Rattle.fax_core.specs.Ageing.{is_past}
 use Rattle.fax_core.specs.Best.{better}
 use Rattle.fax_core.specs.State.{is_due, is_waiting}
@@ -59,8 +55,8 @@ rising : (n k : ℕ) → n < k → nat_cmp n k ≡ Less
 rising n k low = grind (arith, nat_tests)
 
 -- what is shown in order is itself in order, where the two orders are the same
-in_order_of : {X : Type 0} (cmp : Output → Output → Ordering) (out : X → Output) (less : X → X → Bool) → ((a b : X) → is_lt (cmp (out a) (out b)) ≡ less a b) → (xs : List X)
-    → IsSorted cmp (map out xs) → IsSortedBy less xs
+in_order_of : {X : Type 0} (cmp : Output → Output → Ordering) (out : X → Output) (less : X → X → Bool) 
+    → ((a b : X) → is_lt (cmp (out a) (out b)) ≡ less a b) → (xs : List X) → IsSorted cmp (map out xs) → IsSortedBy less xs
 in_order_of cmp out less same xs sorted i d from low =
     sym (same (get_or xs (i + 1) d) (get_or xs i d)) ∙ sym (ap₂ (λ a b. is_lt (cmp a b)) (get_or-map out xs (i + 1) d) (get_or-map out xs i d))
     ∙ sorted i (out d) from (subst (λ n. i + 1 < n) (sym (length_map out xs)) low)
@@ -77,7 +73,8 @@ module _ (project : List Term) where
 -- the rows of a table stand by number
 pub ascend : (jobs : List Job) → IsTable (map row_of jobs) → IsAscending Below jobs
 ascend jobs rise =
-    ascending_weaker (λ a b. value_cmp (rowid (row_of a)) (rowid (row_of b)) ≡ Less) Below (λ a b. lower a.number b.number) jobs (ascending_from_map (λ a b. value_cmp (rowid a) (rowid b) ≡ Less) row_of jobs rise)
+    ascending_weaker (λ a b. value_cmp (rowid (row_of a)) (rowid (row_of b)) ≡ Less) Below (λ a b. lower a.number b.number) jobs
+    (ascending_from_map (λ a b. value_cmp (rowid a) (rowid b) ≡ Less) row_of jobs rise)
 
 module _ (old new : State) (m : Queue) (k : Ledger) (means : TablesMean old.now m k) (sql : List ℕ) (project : List Term) (names : List (List ℕ)) (selects : SelectsBy sql jobs_tree [] project jobs_order names) where
   abbrev of : Job → Row
@@ -95,7 +92,8 @@ module _ (old new : State) (m : Queue) (k : Ledger) (means : TablesMean old.now 
       let back = pull_back row_of (filter is_asked table) shown.0 shown.1 m.jobs all in
       let jobs = back.0 in
       let sorted : IsSorted (output_cmp query) (map (out_of project) jobs) = subst (IsSorted (output_cmp query)) (ap (map (put_out jobs_tree [] project [] jobs_order)) back.2 ∙ map-map _ _ jobs) shown.3 in
-      let up = ascending_weaker Below (λ a b. by_number a b ≡ Less) (λ a b. rising a.number b.number) m.jobs (ascend m.jobs (subst IsTable means.jobs means.ordered.jobs.rise)) in
+      let up = ascending_weaker Below (λ a b. by_number a b ≡ Less) (λ a b. rising a.number b.number) m.jobs
+      (ascend m.jobs (subst IsTable means.jobs means.ordered.jobs.rise)) in
       let same = sorted_unique by_number (on_total (λ (j : Job). j.number) nat_cmp_total) m.jobs jobs up back.1
       (in_order_of (output_cmp query) (out_of project) (λ a b. is_lt (by_number a b)) (same_as_numbers project) jobs sorted) in
       shown.2 ∙ ap (map (show jobs_tree [] project [])) back.2 ∙ map-map _ _ jobs ∙ ap (map of) same

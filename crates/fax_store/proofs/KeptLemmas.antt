@@ -1,14 +1,10 @@
 -- What the texts on the kept replies read and write. A request number of a client has one at most, and a look-up finds it.
-use Rattle.std.proofs.Common.{◌≡◌, inl, inr, ℕ, eqb, List, [], ◌∷◌, drop, Bool, true, false, not, ◌&&◌, Some, None, refl, sym, ap, ap₂, subst, ◌∙◌, ℤ, ◌++◌, All, Option, Err, MatchOption}
-use Rattle.std.specs.Prelude.{find}
+use Rattle.std.proofs.Common.{◌≡◌, inl, inr, ℕ, eqb, List, [], ◌∷◌, drop, Bool, true, false, not, ◌&&◌, Some, None, refl, sym, ap, ap₂, subst, ◌∙◌, ℤ, ◌++◌, All, Option, Err, MatchOption, find, bytes_eq, Ordering, Less, Equal, Greater}
 use Rattle.sqlite_trees.proofs.ListLemmas.{IsPermutation-same}
 use Rattle.fax_schema.proofs.ColumnLemmas.{row_of, record_of}
 use Rattle.fax_store.proofs.MeaningLemmas.{one_entry}
 use Rattle.std.specs.Ordering.{is_ne}
-use Rattle.std.specs.Str.{bytes_eq}
 use Rattle.std.specs.Cmp.Lexicographic.{bytes_decides}
-use Rattle.std.specs.declared.cmp.Ordering.{Ordering}
-use Rattle.std.specs.declared.cmp.Ordering.TheVariants.{Less, Equal, Greater}
 use Rattle.std.proofs.lemmas.Bool.{and_parts, and_from, both_ways, cases_Bool, eqb-true, eq-eqb, not-true, false_from_ne_true}
 use Rattle.std.proofs.lemmas.Slice.Eq.{bytes_eq-Decides}
 use Rattle.sqlite.specs.Collation.TheVariants.{Binary}
@@ -82,20 +78,17 @@ module _ (rows : List Row) (by : IsByRowid rows) (places : List ℕ) (r s : Row)
 -- ---- a number of a client stands in one row
 
 module _ (db : Database) (has : db.schema ≡ our_tables) (sound : IsDatabase db) (by : IsByRowid (db.trees replies_tree)) where
-  -- no row of replies clashes with another in client and number
-  no_clash : (r : Row) → Has (db.trees replies_tree) r → clashes plain (1 ∷ 2 ∷ []) (db.trees replies_tree) r ≡ false
-  no_clash r there =
-      let keeps : Keeps Unique our_tables db.trees = subst (λ s. Keeps Unique s db.trees) has (sound.obeys.rules Unique) in
-      not-true _ (and_parts (not (clashes plain (1 ∷ 2 ∷ []) (db.trees replies_tree) r)) _ (all_has _ (db.trees replies_tree) r keeps.1.1.1.1.0 there)).0
-
-  -- a client's number stands in one row
+  -- no row of replies clashes with another in client and number, so a client's number stands in one row
   pub one_of_key : (client : List ℕ) (n : ℕ) (r s : Row) → Has (db.trees replies_tree) r → Has (db.trees replies_tree) s
       → column r 1 ≡ Text client → column s 1 ≡ Text client → column r 2 ≡ number n → column s 2 ≡ number n → s ≡ r
   one_of_key client n r s there also client_r client_s number_r number_s =
       let clients : equal Binary (column s 1) (column r 1) ≡ true = ap₂ (equal Binary) client_s client_r ∙ equal_texts client client
       ∙ (bytes_eq-Decides client client).1 refl in
       let numbers : equal Binary (column s 2) (column r 2) ≡ true = ap₂ (equal Binary) number_s number_r ∙ number_same n in
-      one_row (db.trees replies_tree) by (1 ∷ 2 ∷ []) r s there also (no_clash r there)
+      let keeps : Keeps Unique our_tables db.trees = subst (λ s. Keeps Unique s db.trees) has (sound.obeys.rules Unique) in
+      let kept = all_has _ (db.trees replies_tree) r keeps.1.1.1.1.0 there in
+      let alone = not-true _ (and_parts (not (clashes plain (1 ∷ 2 ∷ []) (db.trees replies_tree) r)) _ kept).0 in
+      one_row (db.trees replies_tree) by (1 ∷ 2 ∷ []) r s there also alone
       (ap (λ key. equal key.collation (column s 1) (column r 1) && (equal key.collation (column s 2) (column r 2) && true)) first_key-plain
       ∙ ap₂ (λ a b. a && (b && true)) clients numbers)
 
@@ -179,7 +172,8 @@ module _ (client : List ℕ) (n : ℕ) where
         → MatchOption found ((e : Entry) → Has k.replies e → ¬ IsOf client n e) (λ row. (e : Entry) × Has k.replies e × IsOf client n e × (row ≡ entry_shown e))
     reply_found None h = λ e has of.
         let it = row_of entry_columns (old.now.trees replies_tree) k.replies (IsPermutation-same _ _ (sym means.replies)) e has in
-        both_ways _ (none_passes SELECT_REPLY.now replies_tree reply_tests reply_project _ select_reply (λ trees. refl) params old new old.now means.schema refl h it.0 it.1)
+        both_ways _
+        (none_passes SELECT_REPLY.now replies_tree reply_tests reply_project _ select_reply (λ trees. refl) params old new old.now means.schema refl h it.0 it.1)
         (ap is_asked (with_id it.0 _ _ it.2) ∙ rw (of.client_is, of.number_is) (key_passes (column it.0 0) (Blob e.said) (number e.status) (Blob e.body)))
     reply_found (Some row) h =
         let shown = row_passes SELECT_REPLY.now replies_tree reply_tests reply_project _ select_reply (λ trees. refl) params old new old.now means.schema refl

@@ -1,6 +1,5 @@
 -- What the texts on the row of the clock and the next numbers read and write.
-use Rattle.std.proofs.Common.{◌≡◌, ◌≤◌, inl, inr, ℕ, pos, [], ◌∷◌, true, false, not, ◌&&◌, Some, Option, refl, sym, ap, ap₂, subst, ◌∙◌, arith}
-use Rattle.std.specs.Prelude.{◌==◌}
+use Rattle.std.proofs.Common.{◌≡◌, ◌≤◌, inl, inr, ℕ, pos, [], ◌∷◌, true, false, not, ◌&&◌, Some, Option, refl, sym, ap, ap₂, subst, ◌∙◌, arith, ◌==◌}
 use Rattle.std.specs.Ordering.{is_ne}
 use Rattle.std.proofs.lemmas.Bool.{both_ways, cases_Bool, eqb-true, true≢false}
 use Rattle.std.proofs.lemmas.Bool.Decides.{nat_tests}
@@ -46,14 +45,12 @@ stored m = same_row (cast_int (pos 1)) (same_row cast_null (same_row (cast_int _
 abbrev pub clock_params : ℕ → Row
 clock_params clock = number clock ∷ []
 
--- where the clock isn't written, it stood there
-differs : (a b : ℕ) → is_true (binary (Compare Ne Binary) (number a) (number b)) ≡ not (a == b)
-differs a b = compared Ne (number a) (number b) refl refl ∙ ap is_ne (value_cmp-Int (pos a) (pos b)) ∙ grind (arith, nat_tests)
-
 -- where the row doesn't pass as one with another clock, it has this one
 clock_kept : (clock : ℕ) (m : Queue) → passes meta_tree clock_tests clock_project (clock_params clock) (meta_row m) ≡ false → meta_row m ≡ meta_row (with_clock clock m)
 clock_kept clock m off =
-    let tested : (true && (not (m.clock == clock) && true)) ≡ false = sym (ap₂ ◌&&◌ (number_same 1) (ap (λ b. b && true) (differs m.clock clock))) ∙ off in
+    let differs : is_true (binary (Compare Ne Binary) (number m.clock) (number clock)) ≡ not (m.clock == clock) =
+    compared Ne (number m.clock) (number clock) refl refl ∙ ap is_ne (value_cmp-Int (pos m.clock) (pos clock)) ∙ grind (arith, nat_tests) in
+    let tested : (true && (not (m.clock == clock) && true)) ≡ false = sym (ap₂ ◌&&◌ (number_same 1) (ap (λ b. b && true) differs)) ∙ off in
     ap (λ n. meta_row (record m { clock = n })) (elim (cases_Bool (m.clock == clock)) [ inl same ↦ eqb-true m.clock clock same | inr other ↦ absurd (true≢false (sym (ap (λ b. true && (not b && true)) other) ∙ tested)) ])
 
 -- the one row of a table stands by its rowid

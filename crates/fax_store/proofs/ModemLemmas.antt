@@ -1,10 +1,8 @@
 -- What the texts on the modems that are down read and write.
-use Rattle.std.proofs.Common.{◌≡◌, ℕ, List, [], ◌∷◌, ◌++◌, if◌then◌else◌, map, filter, drop, true, false, not, Option, Some, None, Err, is_some, refl, sym, ap, subst, ◌∙◌}
+use Rattle.std.proofs.Common.{◌≡◌, ℕ, List, [], ◌∷◌, ◌++◌, if◌then◌else◌, map, filter, drop, true, false, not, Option, Some, None, Err, is_some, refl, sym, ap, subst, ◌∙◌, bytes_eq, IsPermutation}
 use Rattle.fax_store.proofs.FoundLemmas.{agree_at, none_passes, row_passes, with_id}
 use Rattle.fax_store.proofs.CountLemmas.{turned}
 use Rattle.std.proofs.Math.Bool.{and-true}
-use Rattle.std.specs.Str.{bytes_eq}
-use Rattle.std.specs.List.Sorted.{IsPermutation}
 use Rattle.sqlite.specs.Cast.{cast_row}
 use Rattle.sqlite.specs.Edit.{with_rowid, next_rowid}
 use Rattle.sqlite.specs.Order.{Row, column}

@@ -19,7 +19,7 @@ use Rattle.fax_tables.specs.declared.fault.StoreFault.{StoreFault}
 use Rattle.fax_tables.proofs.StopLemmas.{Ends, inside_commits_nothing, nothing_by, nothing_then}
 use Rattle.fax_store.specs.declared.store.TheConstants.{BEGIN, COMMIT, ROLLBACK}
 use Rattle.fax_store.specs.Store.{Serves, HasTables, MayFind, CommitsNothing, EditsRows, IsEdit, IsEditText, IsQueryText, Reads}
-use Rattle.fax_store.specs.Work.{IsOn, IsActive, Opens, Withholds, MayCommit}
+use Rattle.fax_store.specs.Work.{IsActive, Opens, Withholds, MayCommit}
 use Rattle.fax_store.proofs.ControlLemmas.{IsControl, begin_is, begins, rollback_is}
 use Rattle.fax_store.proofs.ShownLemmas.{shows_nothing}
 use Rattle.fax_store.proofs.StatementLemmas.{edit_shows}
@@ -119,15 +119,13 @@ edit_ends_nothing Commit edit ends = edit
 edit_ends_nothing (Release name) edit ends = edit
 edit_ends_nothing _ edit ends = ends
 
--- inside a work it commits nothing
-edit_commits_nothing : (s : State) (sql : List ℕ) (params : Row) → IsOn s → IsEditText sql → (found : Trees) → CommitsBy sql params s found → ⊥
-edit_commits_nothing s sql params on edit =
-    inside_commits_nothing s sql params (λ c is. edit_ends_nothing c.command (subst EditsRows (sym (ap (λ t. understood t sql) on.schema_is) ∙ is) edit).0) on.inside
-
 module _ (old new : State) (sql : List ℕ) (params : Row) (edit : IsEditText sql) (survives : Survives old new (CommitsBy sql params old)) where
   -- a crash behind it, inside an active work, leaves what it could leave before
   edits_nothing : IsActive old false → CommitsNothing old new
-  edits_nothing active = nothing_by old new (CommitsBy sql params old) survives (λ found clean. edit_commits_nothing old sql params (active clean refl) edit found)
+  edits_nothing active = nothing_by old new (CommitsBy sql params old) survives (λ found clean.
+      let on = active clean refl in
+      inside_commits_nothing old sql params (λ c is. edit_ends_nothing c.command (subst EditsRows (sym (ap (λ t. understood t sql) on.schema_is) ∙ is) edit).0)
+      on.inside found)
 
   -- one that has run leaves the work active, and commits nothing
   pub edit_withholds : (count : ℕ) → (HasCleanDisk new → Executes sql params old new (Ok count)) → Withholds old false new false

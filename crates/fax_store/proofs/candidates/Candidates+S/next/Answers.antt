@@ -1,6 +1,5 @@
-use Rattle.std.proofs.Common.{ℕ, List, sym, ap, ◌∙◌, rules}
+use Rattle.std.proofs.Common.{ℕ, List, sym, ap, ◌∙◌, rules, option_map}
 use Rattle.std.proofs.lemmas.Option.{none-some, same_Some}
-use Rattle.std.specs.Option.{option_map}
 use Rattle.fax_core.specs.Job.{fields_of}
 use Rattle.fax_core.specs.Queue.{job_numbered}
 use Rattle.fax_core.specs.State.{calls_to}

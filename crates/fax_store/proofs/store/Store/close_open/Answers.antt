@@ -1,6 +1,5 @@
 use Rattle.std.proofs.Common.{rules}
 use Rattle.fax_store.specs.Calls.{shown}
-use Rattle.fax_schema.specs.declared.statements.TheConstants.{SHUT_GRANT, DELETE_HOLD}
 use Rattle.fax_store.specs.Grant.{with_closed}
 use Rattle.fax_tables.proofs.TablesLemmas.{calls, calls_of}
 use Rattle.fax_store.proofs.GrantLemmas.{close_counted, close_params, grant_closed}
@@ -21,8 +20,8 @@ pub returns : goal.returns
 returns g c =
     let n = c.args.number in
     let params = close_params n in
-    let shut_one = edits_with g.S.Store _ _ _ SHUT_GRANT.now _ params (search rules) c.in_ok-run.ensures in
-    let freed = edits_with g.S.Store _ _ _ DELETE_HOLD.now _ params (search rules) c.in_ok-run-2.ensures in
+    let shut_one = edits_with g.S.Store _ _ _ _ _ params (search rules) c.in_ok-run.ensures in
+    let freed = edits_with g.S.Store _ _ _ _ _ params (search rules) c.in_ok-run-2.ensures in
     let before = runs_then g.S.Store shut_one.leaves freed.leaves in
     let runs = runs_then g.S.Store before c.set_calls.ensures.leaves in
     record {

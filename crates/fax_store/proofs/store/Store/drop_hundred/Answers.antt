@@ -1,5 +1,4 @@
-use Rattle.std.proofs.Common.{◌≤◌, Ok, Err, subst}
-use Rattle.std.specs.Prelude.{IfSome}
+use Rattle.std.proofs.Common.{◌≤◌, Ok, Err, subst, IfSome}
 use Rattle.fax_store.proofs.FloorLemmas.{thins_err, thins_lower, thins_none, thins_ok, thins_then}
 use Rattle.fax_store.proofs.store.Store.drop_hundred.Goals as goal
 
@@ -12,7 +11,8 @@ pub returns-in_err-drop_through-in-Some-clause-thins : goal.returns-in_err-drop_
 returns-in_err-drop_through-in-Some-clause-thins g c =
     let within : c.in-Some.last ≤ c.args.floor = subst (λ o. IfSome o (λ n. n ≤ c.args.floor)) c.in-Some.is c.in_ok-last.ensures.within in
     thins_then g.S.Store (thins_none g.S.Store (Ok c.in_ok-last.field-0) c.in_ok-last.ensures.leaves tt)
-    (thins_err g.S.Store _ c.from_residual-in_err-drop_through-in-Some.ensures.1 (thins_lower g.S.Store c.in-Some.last within c.in_err-drop_through-in-Some.ensures))
+    (thins_err g.S.Store _ c.from_residual-in_err-drop_through-in-Some.ensures.1
+    (thins_lower g.S.Store c.in-Some.last within c.in_err-drop_through-in-Some.ensures))
 
 pub returns-in_ok-drop_through-in-Some-clause-thins : goal.returns-in_ok-drop_through-in-Some-clause-thins
 returns-in_ok-drop_through-in-Some-clause-thins g c =

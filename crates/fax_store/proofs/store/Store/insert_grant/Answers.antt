@@ -1,5 +1,4 @@
-use Rattle.std.proofs.Common.{◌≡◌, ◌+◌, ◌<◌, refl, sym, ap, ◌∙◌, arith, rules}
-use Rattle.std.specs.Option.{option_map}
+use Rattle.std.proofs.Common.{◌≡◌, ◌+◌, ◌<◌, refl, sym, ap, ◌∙◌, arith, rules, option_map}
 use Rattle.std.proofs.lemmas.Option.{none-some}
 use Rattle.fax_core.specs.Job.{fields_of}
 use Rattle.fax_core.specs.Queue.{job_numbered}

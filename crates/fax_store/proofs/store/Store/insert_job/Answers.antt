@@ -1,10 +1,8 @@
-use Rattle.std.proofs.Common.{◌≡◌, [], ◌∷◌, subst, rules}
-use Rattle.std.specs.String.{string_bytes}
+use Rattle.std.proofs.Common.{◌≡◌, [], ◌∷◌, subst, rules, string_bytes}
 use Rattle.sqlite.specs.Order.{Row}
 use Rattle.sqlite.specs.declared.types.Value.TheVariants.{Text}
 use Rattle.fax_core.specs.Job.{job_of}
 use Rattle.fax_job.specs.declared.job.JobFields.{JobFields}
-use Rattle.fax_schema.specs.declared.statements.TheConstants.{INSERT_JOB}
 use Rattle.fax_tables.specs.Job.{IsFormed, IsLawfulJob, job_shown}
 use Rattle.fax_store.specs.Calls.{WritesIf}
 use Rattle.fax_store.specs.Job.{IsNewJob, with_placed}
@@ -24,6 +22,6 @@ returns g c =
     c.from.ensures c.from-2.ensures c.from-3.ensures c.from-4.ensures c.from-5.ensures c.from-6.ensures c.from-7.ensures c.from-8.ensures c.from-9.ensures c.phase_number.ensures c.wish_number.ensures in
     let formed : IsFormed j = search rules in
     let lawful : IsLawfulJob (job_of j) = lawful_of_fields j (search rules) formed in
-    let inserts = inserts_with g.S.Store _ _ _ INSERT_JOB.now params (job_shown j) shown (inserts_with g.S.Store _ _ _ _ _ _ (search rules) c.insert.ensures) in
+    let inserts = inserts_with g.S.Store _ _ _ _ params (job_shown j) shown (inserts_with g.S.Store _ _ _ _ _ _ (search rules) c.insert.ensures) in
     subst (λ (f : JobFields). WritesIf g.S.Store c.args.self.now c.insert.new.self c.insert.result (λ m k. IsNewJob (job_of f) m) (with_placed (job_of f)) (λ k. k)) same
-    (writes_if_by g.S.Store _ _ _ INSERT_JOB.now (job_shown j) 0 _ _ _ inserts (λ m k means has. job_put _ _ m k means j lawful has) (λ m k means free e h. job_goes _ _ m k means j free e h))
+    (writes_if_by g.S.Store _ _ _ _ (job_shown j) 0 _ _ _ inserts (λ m k means has. job_put _ _ m k means j lawful has) (λ m k means free e h. job_goes _ _ m k means j free e h))

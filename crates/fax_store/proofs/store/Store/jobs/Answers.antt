@@ -1,5 +1,4 @@
-use Rattle.std.proofs.Common.{◌≡◌, List, map, take, IfOk, subst, rules}
-use Rattle.std.specs.List.Sorted.{IsPermutation}
+use Rattle.std.proofs.Common.{◌≡◌, List, map, take, IfOk, subst, rules, IsPermutation}
 use Rattle.std.proofs.lemmas.Result.{IfOk-weaker}
 use Rattle.sqlite.specs.Order.{Row, column}
 use Rattle.fax_schema.specs.Schema.{jobs_tree}

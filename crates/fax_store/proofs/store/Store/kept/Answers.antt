@@ -13,7 +13,7 @@ pub returns-in_err-in_row-in-Some : goal.returns-in_err-in_row-in-Some
 returns-in_err-in_row-in-Some g c = record {
   leaves = finds_as g.S.Store _ _ _ _ c.in_ok-row.ensures.leaves;
   answers = λ m k means s. let client = c.args.client.now in
-      let finds = queries_with g.S.Store _ _ _ SELECT_REPLY.now _ (params client c.args.number) (search rules) c.in_ok-row.ensures in
+      let finds = queries_with g.S.Store _ _ _ _ _ (params client c.args.number) (search rules) c.in_ok-row.ensures in
       let means_now = means (c.in_ok-row.ensures.leaves.served s) in
       let it = rw c.in-Some.is at (reply_found client c.args.number _ _ m k means_now c.in_ok-row.field-0 (finds.found s.clean)) in
       passes_on c.from_residual-in_err-in_row-in-Some.result c.in_err-in_row-in-Some.field-0.0 (IsKeptFor k.replies client c.args.number) c.from_residual-in_err-in_row-in-Some.ensures.1
@@ -27,7 +27,7 @@ returns-in_ok-in_row-in-Some g c = record {
   leaves = finds_as g.S.Store _ _ _ _ c.in_ok-row.ensures.leaves;
   answers = λ m k means s. let client = c.args.client.now in
       let old = state g.S.Store c.args.self.now.conn in
-      let finds = queries_with g.S.Store _ _ _ SELECT_REPLY.now _ (params client c.args.number) (search rules) c.in_ok-row.ensures in
+      let finds = queries_with g.S.Store _ _ _ _ _ (params client c.args.number) (search rules) c.in_ok-row.ensures in
       let means_now = means (c.in_ok-row.ensures.leaves.served s) in
       let it = rw c.in-Some.is at (reply_found client c.args.number old _ m k means_now c.in_ok-row.field-0 (finds.found s.clean)) in
       let tells = c.in_ok-in_row-in-Some.ensures.found it.0 it.3 (lawful_of k.replies it.0 means_now.lawful.replies it.1) in
@@ -40,11 +40,11 @@ pub returns-in-None : goal.returns-in-None
 returns-in-None g c = record {
   leaves = finds_as g.S.Store _ _ _ _ c.in_ok-row.ensures.leaves;
   answers = λ m k means s. let client = c.args.client.now in
-      let finds = queries_with g.S.Store _ _ _ SELECT_REPLY.now _ (params client c.args.number) (search rules) c.in_ok-row.ensures in
+      let finds = queries_with g.S.Store _ _ _ _ _ (params client c.args.number) (search rules) c.in_ok-row.ensures in
       none_kept client c.args.number k.replies
       (rw c.in-None.is at (reply_found client c.args.number _ _ m k (means (c.in_ok-row.ensures.leaves.served s)) c.in_ok-row.field-0 (finds.found s.clean)));
   stands = λ db ours now clean. let client = c.args.client.now in
-      let finds = queries_with g.S.Store _ _ _ SELECT_REPLY.now _ (params client c.args.number) (search rules) c.in_ok-row.ensures in
+      let finds = queries_with g.S.Store _ _ _ _ _ (params client c.args.number) (search rules) c.in_ok-row.ensures in
       none_found client c.args.number _ _ db ours now (subst (FindsRow SELECT_REPLY.now (params client c.args.number) _ _) c.in-None.is (finds.found clean));
   lawful = tt;
 }

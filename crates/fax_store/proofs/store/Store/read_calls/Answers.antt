@@ -2,7 +2,6 @@ use Rattle.std.proofs.Common.{sym, rules}
 use Rattle.sqlite.specs.Held.{state}
 use Rattle.fax_store.proofs.FoundLemmas.{queries_with}
 use Rattle.fax_core.specs.State.{calls_to}
-use Rattle.fax_schema.specs.declared.statements.TheConstants.{SELECT_OPEN}
 use Rattle.fax_store.proofs.CallLemmas as calls
 use Rattle.fax_store.proofs.CountLemmas.{calls_fit}
 use Rattle.fax_store.proofs.store.Store.read_calls.Goals as goal
@@ -10,13 +9,13 @@ use Rattle.fax_store.proofs.store.Store.read_calls.Goals as goal
 pub returns-in-Some-clause-counted : goal.returns-in-Some-clause-counted
 returns-in-Some-clause-counted g c count tables counted low clean =
     let dial = c.args.dial.now in
-    let found = (queries_with g.S.Store _ _ _ SELECT_OPEN.now _ (calls.params dial) (search rules) c.in_ok-row.ensures).found clean in
+    let found = (queries_with g.S.Store _ _ _ _ _ (calls.params dial) (search rules) c.in_ok-row.ensures).found clean in
     c.calls_in.ensures.found (count dial) (rw c.in-Some.is at (calls.calls_found dial _ _ count tables counted.is c.in_ok-row.field-0 found)) low
 
 pub returns-in-None-clause-counted : goal.returns-in-None-clause-counted
 returns-in-None-clause-counted g c count tables counted low clean =
     let dial = c.args.dial.now in
-    let found = (queries_with g.S.Store _ _ _ SELECT_OPEN.now _ (calls.params dial) (search rules) c.in_ok-row.ensures).found clean in
+    let found = (queries_with g.S.Store _ _ _ _ _ (calls.params dial) (search rules) c.in_ok-row.ensures).found clean in
     sym (rw c.in-None.is at (calls.calls_found dial _ _ count tables counted.is c.in_ok-row.field-0 found))
 
 pub returns-in-Some-clause-answers : goal.returns-in-Some-clause-answers

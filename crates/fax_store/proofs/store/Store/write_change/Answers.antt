@@ -3,7 +3,6 @@ use Rattle.sqlite.specs.Order.{Row}
 use Rattle.sqlite.specs.declared.types.Value.TheVariants.{Text}
 use Rattle.fax_core.specs.Job.{job_of}
 use Rattle.fax_job.specs.declared.job.JobFields.{JobFields}
-use Rattle.fax_schema.specs.declared.statements.TheConstants.{UPDATE_JOB}
 use Rattle.fax_store.specs.Calls.{WritesWhere}
 use Rattle.fax_store.specs.Job.{IsChange, with_change}
 use Rattle.fax_tables.specs.Row.{number}
@@ -21,6 +20,6 @@ returns g c =
     c.as_str.ensures.text c.as_str-2.ensures.text c.text.ensures.text c.seconds.ensures.seconds c.killtime_number.ensures.number
     c.from.ensures c.from-2.ensures c.from-3.ensures c.from-4.ensures c.from-5.ensures c.from-6.ensures c.from-7.ensures c.from-8.ensures c.phase_number.ensures c.wish_number.ensures in
     let lawful : IsFormedChange j = search rules in
-    let edits = edits_with g.S.Store _ _ _ UPDATE_JOB.now params (change_params j) shown (edits_with g.S.Store _ _ _ _ _ _ (search rules) c.run.ensures) in
+    let edits = edits_with g.S.Store _ _ _ _ params (change_params j) shown (edits_with g.S.Store _ _ _ _ _ _ (search rules) c.run.ensures) in
     subst (λ (f : JobFields). WritesWhere g.S.Store c.args.self.now c.run.new.self c.run.result (IsChange (job_of f)) (with_change (job_of f)) (λ k. k)) same
-    (writes_where_by g.S.Store _ _ _ UPDATE_JOB.now (change_params j) 0 _ _ _ edits (λ m k fits means has. job_changed j _ _ m k means fits lawful has))
+    (writes_where_by g.S.Store _ _ _ _ (change_params j) 0 _ _ _ edits (λ m k fits means has. job_changed j _ _ m k means fits lawful has))
