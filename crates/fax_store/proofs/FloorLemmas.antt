@@ -37,7 +37,7 @@ use Rattle.fax_store.specs.Calls.{Finds, Writes, shown}
 use Rattle.fax_store.specs.Floors.{Thins}
 use Rattle.fax_store.specs.Work.{IsUnderWay, Steps}
 use Rattle.fax_store.specs.declared.store.Store.{Store}
-use Rattle.fax_store.proofs.FrameLemmas.{runs_of, runs_then}
+use Rattle.fax_store.proofs.FrameLemmas.{runs_err, runs_of, runs_then}
 use Rattle.fax_store.proofs.WorkLemmas.{keeps_by}
 use Rattle.fax_tables.specs.declared.fault.StoreFault.{StoreFault}
 use Rattle.fax_tables.specs.declared.fault.StoreFault.TheVariants.{Unavailable}
@@ -200,6 +200,6 @@ module _ {S : Type 0} (g : Ghosts S) {client : List ℕ} {floor : ℕ} where
       → Thins g client floor {A = A} old new (Err e) → Thins g client floor old new result
   thins_err (Ok b) is thins = absurd is
   thins_err (Err f) is thins = record {
-    leaves = record { served = thins.leaves.served; clean = thins.leaves.clean; holds = thins.leaves.holds; crash = thins.leaves.crash };
+    leaves = runs_err g (Err f) is thins.leaves;
     written = λ m₀ m k₀ k works s. let h = thins.written m₀ m k₀ k works s in (h.0, h.1, (is ∙ h.2.0, h.2.1));
   }

@@ -24,8 +24,8 @@ use Rattle.fax_tables.specs.Fault.{fault_of}
 use Rattle.fax_tables.specs.Tables.{TablesMean}
 use Rattle.fax_tables.specs.declared.fault.StoreFault.{StoreFault}
 use Rattle.fax_tables.specs.declared.fault.StoreFault.TheVariants.{Unavailable}
-use Rattle.fax_store.proofs.StopLemmas.{withholds_by, withholds_err, withholds_then, edit_withholds, refused_withholds}
-use Rattle.fax_store.proofs.WorkLemmas.{changes_by, found_in, holds_by, holds_err, holds_then, keeps_by, move_by, moved_by, moves_of, only_unavailable, reads_same, refused_as, stays_by, step_by, step_of, steps_fault, steps_where, goes_on, edit_holds, left_holds, moves_by, never_ok}
+use Rattle.fax_store.proofs.StopLemmas.{withholds_by, withholds_then, edit_withholds, refused_withholds}
+use Rattle.fax_store.proofs.WorkLemmas.{found_in, holds_by, holds_then, keeps_by, move_by, moved_by, moves_of, only_unavailable, reads_same, refused_as, stays_by, step_by, step_of, steps_fault, steps_where, goes_on, edit_holds, left_holds, moves_by, never_ok}
 
 -- the tables of a store that means something mean it now
 pub means_now : {s : State} {m : Queue} {k : Ledger} → Means s m k → MeansNow s m k
@@ -131,18 +131,15 @@ module _ {S : Type 0} (g : Ghosts S) where
         }
 
   -- a refusal that is passed on
-  pub runs_err : (old new : Store S) {A B : Type 0} (fault : StoreFault) (result : Result B StoreFault) → IsErrAnd result (λ e. e ≡ fault) → Runs g {A = A} old new (Err fault) → Runs g old new result
-  runs_err old new fault result told runs = record {
-    served = runs.served;
-    clean = runs.clean;
-    holds = holds_err (shown g old) (shown g new) result (λ e. e ≡ fault) told runs.holds;
-    crash = withholds_err (shown g old) (shown g new) result (λ e. e ≡ fault) told runs.crash;
-  }
+  pub runs_err : {old new : Store S} {A B : Type 0} {fault : StoreFault} (result : Result A StoreFault) → IsErrAnd result (λ e. e ≡ fault)
+      → Runs g {A = B} old new (Err fault) → Runs g old new result
+  runs_err (Ok a) told runs = absurd told
+  runs_err (Err e) told runs = record { served = runs.served; clean = runs.clean; holds = runs.holds; crash = runs.crash }
 
   -- what is refused makes nothing of what the tables mean, and the last commit stands
   module _ {old new : Store S} {A B : Type 0} (result : Result A StoreFault) {fault : StoreFault} (told : IsErrAnd result (λ e. e ≡ fault)) (refused : Runs g {A = B} old new (Err fault)) where
     runs : Runs g old new result
-    runs = runs_err old new fault result told refused
+    runs = runs_err result told refused
 
     moved : (m₀ m after : Queue) (k₀ k kept : Ledger) → Works (shown g old) false m₀ k₀ m k → Serves (shown g new) → Moves (shown g new) result m₀ k₀ after kept
     moved m₀ m after k₀ k kept works s = moves_by (shown g old) (shown g new) result m₀ m after k₀ k kept runs.served runs.holds works s
@@ -273,7 +270,8 @@ module _ {S : Type 0} (g : Ghosts S) where
       pub makes_by : Writes g old.store.now next result f h → Makes g old (after old next failed) result f h
       makes_by writes = record {
         leaves = calls_by writes.leaves;
-        changes = rw (on, fails) (changes_by (shown g old.store.now) (shown g next) result f h writes.written);
+        changes = rw (on, fails) (moved_by (shown g old.store.now) (shown g next) result f h
+            (λ m₀ m k₀ k works s. moves_of (shown g next) result m₀ (f m) k₀ (h k) (writes.written m₀ m k₀ k works s)));
         cause = writes.cause;
       }
 

@@ -28,7 +28,8 @@ use Rattle.sqlite_sql.specs.Term.{Term}
 use Rattle.fax_schema.proofs.SelectLemmas.{rows_by, passes, show, put_out, in_order}
 use Rattle.fax_schema.proofs.StatementForms.{SelectsBy}
 use Rattle.fax_tables.proofs.TablesLemmas.{row_of}
-use Rattle.fax_store.specs.Job.{brief_places, job_places, AreWaiting}
+use Rattle.fax_job.specs.declared.job.JobFields.{JobFields}
+use Rattle.fax_store.specs.Job.{AreWaiting, BriefsStand, JobsStand, brief_places, job_places}
 use Rattle.fax_schema.proofs.StatementTexts.{brief_names, brief_project, job_names, job_project, jobs_order, select_briefs, select_jobs, waiting_tests, waiting_order, select_waiting}
 use Rattle.std.proofs.Math.Bool.{and-true}
 use Rattle.fax_core.specs.Ageing.{is_past}
@@ -124,12 +125,14 @@ module _ (old new : State) (db : Database) (ours : db.schema ≡ our_tables) (no
       subst (λ (d : Database). IsPermutation (map of (d.trees jobs_tree)) (map (take n) rows)) now (subst (IsPermutation (map of table)) (sym told) same)
 
   -- so does the text on all jobs
-  pub jobs_shown : (rows : List Row) → Shown SELECT_JOBS.now [] old new rows → IsPermutation (map (λ row. map (column row) job_places) (db.trees jobs_tree)) (map (take 20) rows)
-  jobs_shown = each_shown SELECT_JOBS.now job_project job_names select_jobs 20 (λ rs. refl)
+  pub jobs_shown : (rows : List Row) → Shown SELECT_JOBS.now [] old new rows → (found : List JobFields) → map (take 20) rows ≡ map job_shown found → JobsStand db found
+  jobs_shown rows h found is =
+      subst (IsPermutation (map (λ row. map (column row) job_places) (db.trees jobs_tree))) is (each_shown SELECT_JOBS.now job_project job_names select_jobs 20 (λ rs. refl) rows h)
 
   -- and the text on all jobs in brief
-  pub briefs_shown : (rows : List Row) → Shown SELECT_BRIEFS.now [] old new rows → IsPermutation (map (λ row. map (column row) brief_places) (db.trees jobs_tree)) (map (take 19) rows)
-  briefs_shown = each_shown SELECT_BRIEFS.now brief_project brief_names select_briefs 19 (λ rs. refl)
+  pub briefs_shown : (rows : List Row) → Shown SELECT_BRIEFS.now [] old new rows → (found : List JobFields) → map (take 19) rows ≡ map brief_shown found → BriefsStand db found
+  briefs_shown rows h found is =
+      subst (IsPermutation (map (λ row. map (column row) brief_places) (db.trees jobs_tree))) is (each_shown SELECT_BRIEFS.now brief_project brief_names select_briefs 19 (λ rs. refl) rows h)
 
 -- ---- which jobs
 

@@ -1,5 +1,5 @@
 -- What a crash behind a call may leave.
-use Rattle.std.proofs.Common.{◌≡◌, ◌⊎◌, inl, inr, ℕ, Bool, List, [], false, true, None, Ok, Err, Result, IsErrAnd, is_err, IsTrue, refl, sym, ap, subst, ◌∙◌}
+use Rattle.std.proofs.Common.{◌≡◌, ◌⊎◌, inl, inr, ℕ, Bool, List, [], false, true, None, Ok, Err, Result, is_err, IsTrue, refl, sym, ap, subst, ◌∙◌}
 use Rattle.std.specs.Prelude.{⊤}
 use Rattle.std.proofs.lemmas.Bool.{both_ways}
 use Rattle.sqlite_trees.specs.Tree.{Trees}
@@ -160,8 +160,3 @@ withholds_then a b c h first next active =
     let one = first active in
     let two = next one.0 in
     (two.0, nothing_then a b c one.1 two.1)
-
--- a call that was refused leaves what a refused one does
-pub withholds_err : {A : Type 0} (a b : State) (result : Result A StoreFault) (P : StoreFault → Type 0) → IsErrAnd result P → Withholds a false b true → Withholds a false b (is_err result)
-withholds_err a b (Ok x) P is h = absurd is
-withholds_err a b (Err e) P is h = h

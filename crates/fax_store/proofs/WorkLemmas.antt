@@ -171,11 +171,6 @@ module _ (old new : State) (served : Serves new → Serves old) {A : Type 0} (re
 pub holds_then : (a b c : State) (failed : Bool) → (Serves c → Serves b) → Holds a false b false → Holds b false c failed → Holds a false c failed
 holds_then a b c failed served first next db over s = next db (λ at. first db over at) s
 
--- what a refusal leaves, whatever it is
-pub holds_err : {A : Type 0} (a b : State) (result : Result A StoreFault) (P : StoreFault → Type 0) → IsErrAnd result P → Holds a false b true → Holds a false b (is_err result)
-holds_err a b (Ok x) P is h = absurd is
-holds_err a b (Err e) P is h = h
-
 -- A statement that writes rows of one table moves a work on. Where it was refused, the last commit stands.
 pub move_by : (old new : State) (sql : List ℕ) (params : Row) (tree : ℕ) (result : Result (Unit {0}) StoreFault) (m₀ m after : Queue) (k₀ k kept : Ledger) → (Serves new → Serves old) → Works old false m₀ k₀ m k → Serves new
     → OnOk result (HasRun sql params old new) → OnErr result (LeavesCommit old new) → (TablesMean old.now m k → HasRun sql params old new → TablesMean new.now after kept × KeepsOthers our_tables tree old new) → Moves new result m₀ k₀ after kept
@@ -202,16 +197,13 @@ pub step_by : (old new : State) (sql : List ℕ) (params : Row) (tree : ℕ) (re
 step_by old new sql params tree result m₀ m after k₀ k kept served works s ran left cause does =
     step_of new result m₀ after k₀ kept cause (move_by old new sql params tree result m₀ m after k₀ k kept served works s ran left does)
 
--- an INSERT that breaks no rule is refused for want of an answer alone
-pub told_unavailable : (old new : State) (sql : List ℕ) (params : Row) {A : Type 0} (result : Result A StoreFault) → IfErr result (IsRefusedFor sql params old new) → ((e : Error) → Executes sql params old new (Err e) → fault_of e ≡ Unavailable)
-    → IfErr result (λ fault. fault ≡ Unavailable)
-told_unavailable old new sql params (Ok a) told goes = tt
-told_unavailable old new sql params (Err fault) told goes = told.2 ∙ goes told.0 told.1
-
--- and so it is where what the tables mean lets its row break none
+-- an INSERT whose row breaks no rule, by what the tables mean, is refused for want of an answer alone
 pub only_unavailable : (old new : State) (sql : List ℕ) (params : Row) {A : Type 0} (result : Result A StoreFault) (P : Queue → Ledger → Type 0) → (Serves new → Serves old) → (HasCleanDisk new → IfErr result (IsRefusedFor sql params old new))
     → ((m : Queue) (k : Ledger) → TablesMean old.now m k → P m k → (e : Error) → Executes sql params old new (Err e) → fault_of e ≡ Unavailable) → IsOnlyUnavailable old false new result P
-only_unavailable old new sql params result P served told goes m₀ m k₀ k works s holds = told_unavailable old new sql params result (told s.clean) (goes m k ((works (served s)).goes_on refl).means holds)
+only_unavailable old new sql params (Ok a) P served told goes m₀ m k₀ k works s holds = tt
+only_unavailable old new sql params (Err fault) P served told goes m₀ m k₀ k works s holds =
+    let why = told s.clean in
+    why.2 ∙ goes m k ((works (served s)).goes_on refl).means holds why.0 why.1
 
 -- a refusal that is passed on
 pub refused_as : {A : Type 0} (result : Result A StoreFault) (fault : StoreFault) → IsErrAnd result (λ e. e ≡ fault) → fault ≡ Unavailable → IfErr result (λ e. e ≡ Unavailable)
@@ -242,12 +234,6 @@ under_way new (Err e) m₀ m k₀ k h = record { began = h; goes_on = λ on. abs
 pub moved_by : (old new : State) {A : Type 0} (result : Result A StoreFault) (f : Queue → Queue) (g : Ledger → Ledger) → ((m₀ m : Queue) (k₀ k : Ledger) → Works old false m₀ k₀ m k → Serves new → Moves new result m₀ k₀ (f m) (g k))
     → Changes old false new (is_err result) f g
 moved_by old new result f g moves m₀ m k₀ k works s = under_way new result m₀ (f m) k₀ (g k) (moves m₀ m k₀ k works s)
-
--- and so does one that steps on
-pub changes_by : (old new : State) {A : Type 0} (result : Result A StoreFault) (f : Queue → Queue) (g : Ledger → Ledger) → ((m₀ m : Queue) (k₀ k : Ledger) → Works old false m₀ k₀ m k → Serves new → Steps new result m₀ k₀ (f m) (g k))
-    → Changes old false new (is_err result) f g
-changes_by old new result f g steps m₀ m k₀ k works s = under_way new result m₀ (f m) k₀ (g k)
-    (moves_of new result m₀ (f m) k₀ (g k) (steps m₀ m k₀ k works s))
 
 -- a call that moves on each work of a queue of which P holds
 pub steps_where : (old new : State) {A : Type 0} (P : Queue → Type 0) (result : Result A StoreFault) (f : Queue → Queue) (g : Ledger → Ledger)

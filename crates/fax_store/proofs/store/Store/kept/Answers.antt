@@ -1,7 +1,5 @@
-use Rattle.std.proofs.Common.{subst, rules}
+use Rattle.std.proofs.Common.{rules}
 use Rattle.sqlite.specs.Held.{state}
-use Rattle.fax_schema.specs.declared.statements.TheConstants.{SELECT_REPLY}
-use Rattle.fax_store.specs.Store.{FindsRow}
 use Rattle.fax_store.specs.Kept.{IsKeptFor}
 use Rattle.fax_store.proofs.KeptLemmas.{none_kept, one_kept, tables_keep_once, params, reply_found, lawful_of, none_found}
 use Rattle.fax_tables.proofs.ResultLemmas.{passes_on}
@@ -37,14 +35,13 @@ returns-in_ok-in_row-in-Some g c = record {
 }
 
 pub returns-in-None : goal.returns-in-None
-returns-in-None g c = record {
-  leaves = finds_as g.S.Store _ _ _ _ c.in_ok-row.ensures.leaves;
-  answers = λ m k means s. let client = c.args.client.now in
-      let finds = queries_with g.S.Store _ _ _ _ _ (params client c.args.number) (search rules) c.in_ok-row.ensures in
-      none_kept client c.args.number k.replies
-      (rw c.in-None.is at (reply_found client c.args.number _ _ m k (means (c.in_ok-row.ensures.leaves.served s)) c.in_ok-row.field-0 (finds.found s.clean)));
-  stands = λ db ours now clean. let client = c.args.client.now in
-      let finds = queries_with g.S.Store _ _ _ _ _ (params client c.args.number) (search rules) c.in_ok-row.ensures in
-      none_found client c.args.number _ _ db ours now (subst (FindsRow SELECT_REPLY.now (params client c.args.number) _ _) c.in-None.is (finds.found clean));
-  lawful = tt;
-}
+returns-in-None g c =
+    let client = c.args.client.now in
+    let finds = queries_with g.S.Store _ _ _ _ _ (params client c.args.number) (search rules) c.in_ok-row.ensures in
+    record {
+      leaves = finds_as g.S.Store _ _ _ _ finds.leaves;
+      answers = λ m k means s. none_kept client c.args.number k.replies
+          (rw c.in-None.is at (reply_found client c.args.number _ _ m k (means (finds.leaves.served s)) c.in_ok-row.field-0 (finds.found s.clean)));
+      stands = λ db ours now clean. none_found client c.args.number _ _ db ours now (rw c.in-None.is at (finds.found clean));
+      lawful = tt;
+    }

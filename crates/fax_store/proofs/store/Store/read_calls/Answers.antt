@@ -1,5 +1,4 @@
 use Rattle.std.proofs.Common.{sym, rules}
-use Rattle.sqlite.specs.Held.{state}
 use Rattle.fax_store.proofs.FoundLemmas.{queries_with}
 use Rattle.fax_core.specs.State.{calls_to}
 use Rattle.fax_store.proofs.CallLemmas as calls
@@ -20,12 +19,10 @@ returns-in-None-clause-counted g c count tables counted low clean =
 
 pub returns-in-Some-clause-answers : goal.returns-in-Some-clause-answers
 returns-in-Some-clause-answers g c m k means s =
-    let old = state g.S.Store c.args.self.now.conn in
     let means_now = means (c.in_ok-row.ensures.leaves.served s) in
-    returns-in-Some-clause-counted g c (λ d. calls_to d m) means_now.schema (record { is = means_now.calls; ordered = means_now.ordered.calls }) (calls_fit old.now m k means_now c.args.dial.now) s.clean
+    returns-in-Some-clause-counted g c (λ d. calls_to d m) means_now.schema (record { is = means_now.calls; ordered = means_now.ordered.calls }) (calls_fit _ m k means_now c.args.dial.now) s.clean
 
 pub returns-in-None-clause-answers : goal.returns-in-None-clause-answers
 returns-in-None-clause-answers g c m k means s =
-    let old = state g.S.Store c.args.self.now.conn in
     let means_now = means (c.in_ok-row.ensures.leaves.served s) in
-    returns-in-None-clause-counted g c (λ d. calls_to d m) means_now.schema (record { is = means_now.calls; ordered = means_now.ordered.calls }) (calls_fit old.now m k means_now c.args.dial.now) s.clean
+    returns-in-None-clause-counted g c (λ d. calls_to d m) means_now.schema (record { is = means_now.calls; ordered = means_now.ordered.calls }) (calls_fit _ m k means_now c.args.dial.now) s.clean
