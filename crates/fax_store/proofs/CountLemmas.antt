@@ -179,10 +179,6 @@ module _ (n : ℕ) where
   abbrev pub shut : Grant → Grant
   shut x = if x.number == n then record x { is_open = false } else x
 
-  -- one that is open still is as it was
-  still_open : (x : Grant) → (shut x).is_open ≡ true → shut x ≡ x
-  still_open x = cond_both (x.number == n) (record x { is_open = false }) x (λ y. y.is_open ≡ true → y ≡ x) (λ _ e. absurd (true≢false (sym e))) (λ _ e. refl)
-
   -- shutting an open grant takes it off those that are open
   pub closed_count : (of : Grant → Bool) (g : Grant) (gs : List Grant) → IsTable (map grant_row gs) → find (λ (x : Grant). x.number == n) gs ≡ Some g → g.is_open ≡ true → open_to of (map shut gs) + one (of g) ≡ open_to of gs
   closed_count of g [] rise found on = absurd cc
@@ -205,7 +201,8 @@ module _ (n : ℕ) where
   jobs_shut m have g has =
       let opened = has_filtered (λ (x : Grant). x.is_open) (map shut m.grants) g has in
       let it = has_mapped shut m.grants g opened.0 in
-      let same : g ≡ it.0 = it.2 ∙ still_open it.0 (sym (ap (λ (x : Grant). x.is_open) it.2) ∙ opened.1) in
+      let same : g ≡ it.0 = it.2 ∙ cond_both (it.0.number == n) (record it.0 { is_open = false }) it.0 (λ y. y.is_open ≡ true → y ≡ it.0)
+      (λ _ e. absurd (true≢false (sym e))) (λ _ e. refl) (sym (ap (λ (x : Grant). x.is_open) it.2) ∙ opened.1) in
       let was = have it.0 (has_kept (λ (x : Grant). x.is_open) m.grants it.0 it.1 (sym (ap (λ (x : Grant). x.is_open) same) ∙ opened.1)) in
       (was.0, ap (λ (x : Grant). job_numbered x.job m) same ∙ was.1)
 

@@ -95,11 +95,6 @@ as_it_is None = refl
 as_it_is (Some a) = refl
 
 module _ {S : Type 0} (g : Ghosts S) where
-  -- a query, with its parameters as they are meant
-  pub queries_with : (old new : Store S) (result : Result (Option Row) StoreFault) (sql : List ℕ) (params meant : Row) → params ≡ meant
-      → Queries g old new result (FindsRow sql params (shown g old) (shown g new)) → Queries g old new result (FindsRow sql meant (shown g old) (shown g new))
-  queries_with old new result sql params meant same = subst (λ p. Queries g old new result (FindsRow sql p (shown g old) (shown g new))) same
-
   -- The text finds the row of one record of the queue, which is shown so.
   pub record Keys {X : Type 0} (old new : Store S) (sql : List ℕ) (params : Row) (one : Queue → Option X) (shows : X → Row) (IsLawful : X → Type 0) (HasOne : Database → Type 0) : Type 0 where
     pub found : (m : Queue) (k : Ledger) → TablesMean (shown g old).now m k → (row : Option Row) → FindsRow sql params (shown g old) (shown g new) row → row ≡ option_map shows (one m)

@@ -1,5 +1,5 @@
 -- What calls leave, one after the other.
-use Rattle.std.proofs.Common.{◌≡◌, inl, MatchResult, ℕ, List, false, Ok, Err, Result, IfOk, OnOk, IsErr, IsErrAnd, is_err, refl, subst, sym, ◌∙◌, Bool}
+use Rattle.std.proofs.Common.{◌≡◌, inl, MatchResult, ℕ, List, false, Ok, Err, Result, IfOk, OnOk, IsErr, IsErrAnd, Option, is_err, refl, subst, sym, ◌∙◌, Bool}
 use Rattle.fax_store.proofs.StoreLemmas.{clean_in, served}
 use Rattle.fax_store.proofs.StatementLemmas.{left_open, run_open}
 use Rattle.std.specs.Prelude.{⊤}
@@ -13,9 +13,9 @@ use Rattle.fax_core.specs.Queue.{Queue}
 use Rattle.sqlite.proofs.InsideLemmas.{unchanged_keeps}
 use Rattle.sqlite.specs.Effect.{Database}
 use Rattle.fax_store.specs.Adopt.{Tests}
-use Rattle.fax_store.specs.Calls.{Answers, Calls, Edits, Finds, Follows, Inserts, Looks, Makes, MakesIf, MakesIfWhere, MakesWhere, Runs, Tells, TellsLawful, Writes, WritesIf, WritesIfWhere, WritesWhere, shown, within}
+use Rattle.fax_store.specs.Calls.{Answers, Calls, Edits, Finds, Follows, Inserts, Looks, Makes, MakesIf, MakesIfWhere, MakesWhere, Queries, Runs, Tells, TellsLawful, Writes, WritesIf, WritesIfWhere, WritesWhere, shown, within}
 use Rattle.fax_store.specs.Work.{IsOnlyUnavailable, IsUnderWay, Moves, Steps, Works}
-use Rattle.fax_store.specs.Store.{CommitsNothing, HasRun, HasTables, Means, MeansNow, Reads, Serves, IsEditText, LeavesCommit}
+use Rattle.fax_store.specs.Store.{CommitsNothing, FindsRow, HasRun, HasTables, Means, MeansNow, Reads, Serves, IsEditText, LeavesCommit}
 use Rattle.fax_store.specs.declared.store.Store.{Store}
 use Rattle.fax_store.specs.declared.work.Work.{Work}
 use Rattle.fax_schema.specs.Schema.{our_tables}
@@ -25,7 +25,8 @@ use Rattle.fax_tables.specs.Tables.{TablesMean}
 use Rattle.fax_tables.specs.declared.fault.StoreFault.{StoreFault}
 use Rattle.fax_tables.specs.declared.fault.StoreFault.TheVariants.{Unavailable}
 use Rattle.fax_store.proofs.StopLemmas.{withholds_by, withholds_then, edit_withholds, refused_withholds}
-use Rattle.fax_store.proofs.WorkLemmas.{found_in, holds_by, holds_then, keeps_by, move_by, moved_by, moves_of, only_unavailable, reads_same, refused_as, stays_by, step_by, step_of, steps_fault, steps_where, goes_on, edit_holds, left_holds, moves_by, never_ok}
+use Rattle.fax_store.proofs.WorkLemmas.{found_in, holds_by, holds_then, keeps_by, moved_by, reads_same, stays_by, steps_fault, edit_holds, left_holds, never_ok}
+pub use Rattle.fax_store.proofs.WorkLemmas.{err_as, goes_on, inside_by, move_by, moves_by, moves_of, ok_as, only_unavailable, reads_refused, refused_as, refused_steps, step_by, step_of, steps_where, there_as}
 
 -- the tables of a store that means something mean it now
 pub means_now : {s : State} {m : Queue} {k : Ledger} → Means s m k → MeansNow s m k
@@ -211,7 +212,11 @@ module _ {S : Type 0} (g : Ghosts S) where
       cause = only_unavailable (shown g old) (shown g new) sql params result Fit inserts.leaves.served inserts.told goes;
     }
 
-  -- a statement, with its parameters as they are meant
+  -- a query and a statement, with their parameters as they are meant
+  pub queries_with : (old new : Store S) (result : Result (Option Row) StoreFault) (sql : List ℕ) (params meant : Row) → params ≡ meant
+      → Queries g old new result (FindsRow sql params (shown g old) (shown g new)) → Queries g old new result (FindsRow sql meant (shown g old) (shown g new))
+  queries_with old new result sql params meant same = subst (λ p. Queries g old new result (FindsRow sql p (shown g old) (shown g new))) same
+
   pub edits_with : (old new : Store S) (result : Result (Unit {0}) StoreFault) (sql : List ℕ) (params meant : Row) → params ≡ meant → Edits g old new result sql params → Edits g old new result sql meant
   edits_with old new result sql params meant same = subst (Edits g old new result sql) same
 

@@ -294,11 +294,6 @@ module _ (n : ℕ) where
   abbrev shut : Grant → Grant
   shut = shut_at n
 
-  -- a lawful grant stays lawful, shut or not
-  shut_lawful : (x : Grant) → IsLawfulGrant x → IsLawfulGrant (shut x)
-  shut_lawful x was = cond_both (x.number == n) (closed x) x IsLawfulGrant
-      (λ _. record { limits = record { number = was.limits.number; job = was.limits.job; pages = was.limits.pages }; modem = was.modem }) (λ _. was)
-
   abbrev but_this : List Grant → List Grant
   but_this = filter (λ x. not (x.number == n))
 
@@ -359,7 +354,12 @@ module _ (n : ℕ) where
         (λ x has off. rw (is_other x off) refl)
         shuts in
         let now_shut : AreRecords grant_row IsLawfulGrant (mid.now.trees grants_tree) (map shut m.grants) =
-        record { is = first.1; ordered = first.2; lawful = all_mapped IsLawfulGrant shut m.grants (λ x has. shut_lawful x) means.lawful.grants } in
+        record {
+          is = first.1;
+          ordered = first.2;
+          lawful = all_mapped IsLawfulGrant shut m.grants (λ x has was. cond_both (x.number == n) (closed x) x IsLawfulGrant
+              (λ _. record { limits = record { number = was.limits.number; job = was.limits.job; pages = was.limits.pages }; modem = was.modem }) (λ _. was)) means.lawful.grants;
+        } in
         let was = grants_changed old mid m (open_grants m) (calls_of m) k (parts_of old.now m k means) first.0 (map shut m.grants) now_shut in
         let ran = runs_as DELETE_HOLD.now close_params mid new our_tables was.schema _ delete_hold.is delete_hold.plain more.0 more.1 in
         let done = deleted schema.holds.name 2 schema.holds.columns schema.holds.key schema.holds.primary schema.holds.uniques schema.holds.orders schema.holds.checks 2 refl mid new was.schema refl (was.says holds).ordered

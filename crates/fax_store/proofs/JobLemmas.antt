@@ -12,7 +12,7 @@ use Rattle.sqlite.specs.Rowids.TheVariants.{Chosen}
 use Rattle.sqlite.proofs.Callers.{runs_as, reads_as}
 use Rattle.sqlite_rules.specs.Lists.{Has}
 use Rattle.sqlite_trees.specs.declared.store.Store.{Ghosts}
-use Rattle.fax_core.specs.Job.{Job, job_of, fields_of, pages_to, HasPages}
+use Rattle.fax_core.specs.Job.{Job, job_of, fields_of, pages_to}
 use Rattle.fax_core.specs.Ledger.{Ledger}
 use Rattle.fax_core.specs.Queue.{Queue, job_numbered, open_grants}
 use Rattle.fax_job.specs.Job.{IsLawful}
@@ -134,12 +134,6 @@ range_split a (suc m) n =
     let count : suc m + n ≡ suc (m + n) = omega arith in
     ap (λ rest. a ∷ rest) (ap (λ x. range_with_len (a + 1) m ++ range_with_len x n) from ∙ range_split (a + 1) m n) ∙ sym (ap (range_with_len a) count)
 
--- the pages of a job made of a record are those sent and those behind them
-pub pages_of : (f : JobFields) → f.npages ≤ f.totpages → HasPages (job_of f)
-pages_of f low =
-    ap (λ from. pages_to f.npages ++ range_with_len from (f.totpages - f.npages)) (let e : f.npages + 1 ≡ 1 + f.npages = omega arith in e)
-    ∙ range_split 1 f.npages (f.totpages - f.npages) ∙ ap (range_with_len 1) (let e : f.npages + (f.totpages - f.npages) ≡ f.totpages = omega arith in e)
-
 -- the row of a job is stored as it is
 pub stored_job : (f : JobFields) → cast_row schema.jobs (job_row f) ≡ job_row f
 stored_job f =
@@ -185,7 +179,10 @@ pub lawful_of_fields : (f : JobFields) → IsLawful f → IsFormed f → IsLawfu
 lawful_of_fields f limits formed = record {
   formed = subst IsFormed (sym (fields_back f)) formed;
   limits = subst IsLawful (sym (fields_back f)) limits;
-  pages = pages_of f (sent_low f limits);
+  pages = let low = sent_low f limits in
+      ap (λ from. pages_to f.npages ++ range_with_len from (f.totpages - f.npages)) (let e : f.npages + 1 ≡ 1 + f.npages = omega arith in e)
+      ∙ range_split 1 f.npages (f.totpages - f.npages)
+      ∙ ap (range_with_len 1) (let e : f.npages + (f.totpages - f.npages) ≡ f.totpages = omega arith in e);
 }
 
 -- what a function keeps of each element holds of each that it makes
@@ -225,10 +222,11 @@ module _ (f : JobFields) (lines : List Pair) where
   same_number : (x : Job) → (put x).number ≡ x.number
   same_number x = cond_both (x.number == f.job) (job_of whole) x (λ y. y.number ≡ x.number) (λ same. sym (eqb-true x.number f.job same)) (λ _. refl)
 
-  -- a lawful job stays lawful under a change of its form
-  change_lawful : IsFormedChange f → (x : Job) → KeepsOrder x → IsLawfulJob x → IsLawfulJob (job_of whole)
-  change_lawful lawful x same was = lawful_of_fields whole (ap₂ ◌&&◌ (and_parts _ _ lawful.limits).0
-      (subst (λ e. IsTrue (are_unknown e)) same.extra (and_parts _ _ was.limits).1)) (record {
+  -- each job stays lawful under a change of its form, whether it changes or not
+  put_lawful : IsFormedChange f → (x : Job) → (x.number ≡ f.job → KeepsOrder x) → IsLawfulJob x → IsLawfulJob (put x)
+  put_lawful lawful x keeps was = cond_both (x.number == f.job) (job_of whole) x IsLawfulJob (λ here.
+      let same = keeps (eqb-true x.number f.job here) in
+      lawful_of_fields whole (ap₂ ◌&&◌ (and_parts _ _ lawful.limits).0 (subst (λ e. IsTrue (are_unknown e)) same.extra (and_parts _ _ was.limits).1)) (record {
         dial = subst (IsText IsCanonical) same.order.dial was.formed.dial;
         modem = lawful.modem;
         jobtag = lawful.jobtag;
@@ -237,12 +235,7 @@ module _ (f : JobFields) (lines : List Pair) where
         tts = lawful.tts;
         killtime = lawful.killtime;
         priority = lawful.priority;
-      })
-
-  -- each job stays lawful, whether it changes or not
-  put_lawful : IsFormedChange f → (x : Job) → (x.number ≡ f.job → KeepsOrder x) → IsLawfulJob x → IsLawfulJob (put x)
-  put_lawful lawful x same was = cond_both (x.number == f.job) (job_of whole) x IsLawfulJob
-      (λ here. change_lawful lawful x (same (eqb-true x.number f.job here)) was) (λ _. was)
+      })) (λ _. was)
 
 module _ (f : JobFields) (old new : State) (m : Queue) (k : Ledger) (means : TablesMean old.now m k) where
   abbrev its_lines : List Pair

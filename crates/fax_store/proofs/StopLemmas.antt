@@ -55,26 +55,23 @@ quiet_nothing s Rollback text params found is (inr writes) = absurd (let bad = w
 quiet_nothing s _ text params found is h = absurd is
 
 -- so a crash behind a quiet command leaves what it could leave before
-control_nothing : (old new : State) (sql : List ℕ) (command : Command) → IsQuiet command → ((c : Compiled) → understood old.now.schema sql ≡ Ok c → IsControl sql command (Ok c)) → Survives old new (CommitsBy sql [] old) → CommitsNothing old new
+control_nothing : (old new : State) (sql : List ℕ) (command : Command) → IsQuiet command → IsControl sql command (understood old.now.schema sql)
+    → Survives old new (CommitsBy sql [] old) → CommitsNothing old new
 unfolding CommitsBy
 control_nothing old new sql command quiet is survives = nothing_by old new (CommitsBy sql [] old) survives (λ found clean h.
-    let it = is h.0 h.1.is in
+    let it = subst (IsControl sql command) h.1.is is in
     let text = text_of sql h.0 in
     let full = timed [] h.0.formats h.1.now in
     quiet_nothing old command text full found quiet
     (subst (λ k. CommitsAs old None k text full found) it.0 (subst (λ r. CommitsAs old r h.0.command text full found) it.1 h.2)))
 
--- what the text is understood as is this command
-known : (sql : List ℕ) (command : Command) (r : Result Compiled CompileError) → IsControl sql command r → (c : Compiled) → r ≡ Ok c → IsControl sql command (Ok c)
-known sql command r is c e = subst (IsControl sql command) e is
-
 -- a crash behind a begin leaves what it could leave before
 pub begin_nothing : (old new : State) → Survives old new (CommitsBy BEGIN.now [] old) → CommitsNothing old new
-begin_nothing old new = control_nothing old new BEGIN.now Begin tt (known BEGIN.now Begin (understood old.now.schema BEGIN.now) (begin_is old.now.schema))
+begin_nothing old new = control_nothing old new BEGIN.now Begin tt (begin_is old.now.schema)
 
 -- a crash behind a rollback leaves what it could leave before
 pub rollback_nothing : (old new : State) → Survives old new (CommitsBy ROLLBACK.now [] old) → CommitsNothing old new
-rollback_nothing old new = control_nothing old new ROLLBACK.now Rollback tt (known ROLLBACK.now Rollback (understood old.now.schema ROLLBACK.now) (rollback_is old.now.schema))
+rollback_nothing old new = control_nothing old new ROLLBACK.now Rollback tt (rollback_is old.now.schema)
 
 -- a begin over our tables makes the work active, and commits nothing
 pub begun_opens : (old new : State) → Survives old new (CommitsBy BEGIN.now [] old) → (n : ℕ) → (HasCleanDisk new → Executes BEGIN.now [] old new (Ok n)) → Opens old new false

@@ -149,10 +149,7 @@ undoes_commit old new served back m₀ m k₀ k works s =
 
 -- no text is refused for a closed database by what it says
 no_statement : (s : State) (sql : List ℕ) (e : Error) → e ≡ SqliteFailure code.Closed → ¬ (IsNoStatement s sql [] e)
-no_statement s sql e is (inl (fault, unknown, said)) = absurd (let both = sym is ∙ said in cc)
-no_statement s sql e is (inr (c, known, inl (more, said))) = absurd (let both = sym is ∙ said in cc)
-no_statement s sql e is (inr (c, known, inr (inl (other, said)))) = absurd (let both = sym is ∙ said in cc)
-no_statement s sql e is (inr (c, known, inr (inr (times, said)))) = absurd (let both = sym is ∙ said in cc)
+no_statement s sql e is h = grind arith
 
 module _ (old new : State) where
   -- where the cause is that the database is closed, it is closed

@@ -2,8 +2,7 @@ use Rattle.std.proofs.Common.{◌≡◌, true, false, sym, ◌∙◌, rules}
 use Rattle.fax_core.specs.Machine.{is_down, with_mark}
 use Rattle.fax_value.specs.Name.{IsName}
 use Rattle.fax_store.proofs.ModemLemmas as modems
-use Rattle.fax_store.proofs.WorkLemmas.{move_by, only_unavailable}
-use Rattle.fax_store.proofs.FrameLemmas.{inserts_with, reads_on, runs_of, runs_then}
+use Rattle.fax_store.proofs.FrameLemmas.{inserts_with, move_by, only_unavailable, reads_on, runs_of, runs_then}
 use Rattle.fax_store.proofs.store.Store.add_mark.Goals as goal
 
 pub returns-then-branch : goal.returns-then-branch

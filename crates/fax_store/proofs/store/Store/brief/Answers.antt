@@ -2,7 +2,8 @@ use Rattle.std.proofs.Common.{refl, rules}
 use Rattle.fax_core.specs.Job.{fields_of}
 use Rattle.fax_tables.specs.Job.{brief}
 use Rattle.fax_store.proofs.JobLemmas.{brief_keys, brief_stands}
-use Rattle.fax_store.proofs.FoundLemmas.{looks_err, looks_none, looks_up, queries_with}
+use Rattle.fax_store.proofs.FoundLemmas.{looks_err, looks_none, looks_up}
+use Rattle.fax_store.proofs.FrameLemmas.{queries_with}
 use Rattle.fax_store.proofs.store.Store.brief.Goals as goal
 
 pub returns-in-None : goal.returns-in-None

@@ -3,8 +3,7 @@ use Rattle.fax_store.specs.Calls.{shown}
 use Rattle.fax_store.specs.Grant.{with_closed}
 use Rattle.fax_tables.proofs.TablesLemmas.{calls, calls_of}
 use Rattle.fax_store.proofs.GrantLemmas.{close_counted, close_params, grant_closed}
-use Rattle.fax_store.proofs.FrameLemmas.{runs_then, writes_where_refused, edits_with}
-use Rattle.fax_store.proofs.WorkLemmas.{inside_by, moves_by, ok_as, step_of}
+use Rattle.fax_store.proofs.FrameLemmas.{edits_with, inside_by, moves_by, ok_as, runs_then, step_of, writes_where_refused}
 use Rattle.fax_store.proofs.store.Store.close_open.Goals as goal
 
 pub returns-in_err-run : goal.returns-in_err-run

@@ -1,6 +1,6 @@
 use Rattle.std.proofs.Common.{◌≡◌, [], ◌∷◌, MatchOption, sym, ap, subst, ◌∙◌, rules, option_map}
 use Rattle.std.proofs.lemmas.Option.{same_Some}
-use Rattle.fax_store.proofs.FoundLemmas.{queries_with}
+use Rattle.fax_store.proofs.FrameLemmas.{queries_with}
 use Rattle.sqlite.specs.declared.types.Value.TheVariants.{Text}
 use Rattle.sqlite_rules.specs.Lists.{Has}
 use Rattle.fax_core.specs.Job.{Job}

@@ -1,5 +1,5 @@
 use Rattle.std.proofs.Common.{sym, rules}
-use Rattle.fax_store.proofs.FoundLemmas.{queries_with}
+use Rattle.fax_store.proofs.FrameLemmas.{queries_with}
 use Rattle.fax_store.proofs.CallLemmas.{params}
 use Rattle.fax_store.proofs.FloorLemmas.{floor_found, floor_low}
 use Rattle.fax_store.proofs.store.Store.floor.Goals as goal

@@ -1,6 +1,7 @@
 use Rattle.std.proofs.Common.{rules}
 use Rattle.fax_store.proofs.GrantLemmas.{grant_keys, grant_stands}
-use Rattle.fax_store.proofs.FoundLemmas.{as_it_is, looks_err, looks_lawful, looks_none, looks_up, queries_with}
+use Rattle.fax_store.proofs.FoundLemmas.{as_it_is, looks_err, looks_lawful, looks_none, looks_up}
+use Rattle.fax_store.proofs.FrameLemmas.{queries_with}
 use Rattle.fax_store.proofs.store.Store.grant.Goals as goal
 
 pub returns-in-None : goal.returns-in-None

@@ -1,7 +1,6 @@
 use Rattle.std.proofs.Common.{sym, ◌∙◌, rules}
-use Rattle.fax_store.proofs.FoundLemmas.{queries_with}
 use Rattle.fax_store.proofs.JobLemmas.{expired_params, none_expired}
-use Rattle.fax_store.proofs.FrameLemmas.{finds_as}
+use Rattle.fax_store.proofs.FrameLemmas.{finds_as, queries_with}
 use Rattle.fax_store.proofs.store.Store.has_expired.Goals as goal
 
 pub returns : goal.returns

@@ -1,7 +1,8 @@
 use Rattle.std.proofs.Common.{refl, rules}
 use Rattle.fax_tables.specs.Grant.{as_hold}
 use Rattle.fax_store.proofs.GrantLemmas.{hold_keys, hold_stands}
-use Rattle.fax_store.proofs.FoundLemmas.{looks_err, looks_lawful, looks_none, looks_up, queries_with}
+use Rattle.fax_store.proofs.FoundLemmas.{looks_err, looks_lawful, looks_none, looks_up}
+use Rattle.fax_store.proofs.FrameLemmas.{queries_with}
 use Rattle.fax_store.proofs.store.Store.hold_of.Goals as goal
 
 pub returns-in-None : goal.returns-in-None

@@ -5,8 +5,7 @@ use Rattle.fax_core.specs.Queue.{job_numbered}
 use Rattle.fax_core.specs.State.{calls_to}
 use Rattle.fax_job.specs.declared.job.JobFields.{JobFields}
 use Rattle.fax_store.proofs.CountLemmas.{calls_few}
-use Rattle.fax_store.proofs.WorkLemmas.{refused_as, there_as}
-use Rattle.fax_store.proofs.FrameLemmas.{reads_on, runs_of, runs_then}
+use Rattle.fax_store.proofs.FrameLemmas.{reads_on, refused_as, runs_of, runs_then, there_as}
 use Rattle.fax_store.proofs.store.Store.insert_grant.Goals as goal
 
 pub returns-in_default : goal.returns-in_default

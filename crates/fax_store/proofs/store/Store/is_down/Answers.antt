@@ -1,7 +1,6 @@
 use Rattle.std.proofs.Common.{◌∙◌, rules}
-use Rattle.fax_store.proofs.FoundLemmas.{queries_with}
 use Rattle.fax_store.proofs.ModemLemmas as modems
-use Rattle.fax_store.proofs.FrameLemmas.{finds_as}
+use Rattle.fax_store.proofs.FrameLemmas.{finds_as, queries_with}
 use Rattle.fax_store.proofs.store.Store.is_down.Goals as goal
 
 pub returns : goal.returns

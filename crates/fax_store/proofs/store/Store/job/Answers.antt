@@ -1,7 +1,8 @@
 use Rattle.std.proofs.Common.{refl, rules}
 use Rattle.fax_core.specs.Job.{fields_of}
 use Rattle.fax_store.proofs.JobLemmas.{job_keys, job_stands}
-use Rattle.fax_store.proofs.FoundLemmas.{looks_err, looks_none, looks_up, queries_with}
+use Rattle.fax_store.proofs.FoundLemmas.{looks_err, looks_none, looks_up}
+use Rattle.fax_store.proofs.FrameLemmas.{queries_with}
 use Rattle.fax_store.proofs.store.Store.job.Goals as goal
 
 pub returns-in-None : goal.returns-in-None

@@ -3,8 +3,7 @@ use Rattle.sqlite.specs.Held.{state}
 use Rattle.fax_store.specs.Kept.{IsKeptFor}
 use Rattle.fax_store.proofs.KeptLemmas.{none_kept, one_kept, tables_keep_once, params, reply_found, lawful_of, none_found}
 use Rattle.fax_tables.proofs.ResultLemmas.{passes_on}
-use Rattle.fax_store.proofs.FrameLemmas.{finds_as}
-use Rattle.fax_store.proofs.FoundLemmas.{queries_with}
+use Rattle.fax_store.proofs.FrameLemmas.{finds_as, queries_with}
 use Rattle.fax_store.proofs.store.Store.kept.Goals as goal
 
 pub returns-in_err-in_row-in-Some : goal.returns-in_err-in_row-in-Some

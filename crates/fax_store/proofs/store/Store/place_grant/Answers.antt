@@ -4,8 +4,7 @@ use Rattle.fax_value.specs.Name.{IsName}
 use Rattle.fax_store.specs.Grant.{with_placed}
 use Rattle.fax_tables.proofs.TablesLemmas.{calls, calls_of}
 use Rattle.fax_store.proofs.GrantLemmas.{hold_params, grant_params, hold_goes, grant_counted, grant_put, grant_goes}
-use Rattle.fax_store.proofs.FrameLemmas.{runs_then, writes_if_where_refused, inserts_with}
-use Rattle.fax_store.proofs.WorkLemmas.{inside_by, moves_by, ok_as, refused_as}
+use Rattle.fax_store.proofs.FrameLemmas.{inserts_with, inside_by, moves_by, ok_as, refused_as, runs_then, writes_if_where_refused}
 use Rattle.fax_store.proofs.store.Store.place_grant.Goals as goal
 
 pub returns-in_err-insert : goal.returns-in_err-insert

@@ -1,5 +1,5 @@
 use Rattle.std.proofs.Common.{sym, rules}
-use Rattle.fax_store.proofs.FoundLemmas.{queries_with}
+use Rattle.fax_store.proofs.FrameLemmas.{queries_with}
 use Rattle.fax_core.specs.State.{calls_to}
 use Rattle.fax_store.proofs.CallLemmas as calls
 use Rattle.fax_store.proofs.CountLemmas.{calls_fit}

@@ -1,12 +1,11 @@
 use Rattle.std.proofs.Common.{◌≡◌, ◌≤◌, rules, [], ◌∷◌}
-use Rattle.fax_store.proofs.FrameLemmas.{edits_with, runs_then}
+use Rattle.fax_store.proofs.FrameLemmas.{edits_with, err_as, ok_as, runs_then}
 use Rattle.sqlite.proofs.InsideLemmas.{unchanged_keeps}
 use Rattle.sqlite.specs.declared.types.Value.TheVariants.{Text}
 use Rattle.fax_store.specs.Grant.{with_count}
 use Rattle.fax_tables.specs.Row.{number}
 use Rattle.fax_tables.proofs.CreateLemmas.{commit_kept}
 use Rattle.fax_store.proofs.CallLemmas.{calls_gone, calls_put, has_calls, params, set_then}
-use Rattle.fax_store.proofs.WorkLemmas.{err_as, ok_as}
 use Rattle.fax_store.proofs.store.Store.set_calls.Goals as goal
 
 pub returns-then-calls-eq0-clause-set : goal.returns-then-calls-eq0-clause-set

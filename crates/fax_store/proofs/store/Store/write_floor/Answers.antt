@@ -2,8 +2,7 @@ use Rattle.std.proofs.Common.{rules}
 use Rattle.fax_core.specs.Ledger.{floors_with}
 use Rattle.fax_store.proofs.CallLemmas.{params}
 use Rattle.fax_store.proofs.FloorLemmas.{floor_gone, floor_params, floor_set}
-use Rattle.fax_store.proofs.WorkLemmas.{step_by}
-use Rattle.fax_store.proofs.FrameLemmas.{edits_with, runs_then, writes_by, writes_where_refused}
+use Rattle.fax_store.proofs.FrameLemmas.{edits_with, runs_then, step_by, writes_by, writes_where_refused}
 use Rattle.fax_store.proofs.store.Store.write_floor.Goals as goal
 
 pub returns : goal.returns

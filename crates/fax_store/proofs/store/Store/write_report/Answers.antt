@@ -1,9 +1,8 @@
 use Rattle.std.proofs.Common.{◌≤◌, rules}
 use Rattle.fax_store.specs.Grant.{IsReport}
-use Rattle.fax_store.proofs.FrameLemmas.{edits_with, writes_where_by}
+use Rattle.fax_store.proofs.FrameLemmas.{edits_with, moves_of, writes_where_by}
 use Rattle.fax_core.specs.Machine.{with_grant}
 use Rattle.fax_store.proofs.GrantLemmas.{report_params, grant_reported}
-use Rattle.fax_store.proofs.WorkLemmas.{moves_of}
 use Rattle.fax_store.proofs.store.Store.write_report.Goals as goal
 
 pub returns-clause-written : goal.returns-clause-written

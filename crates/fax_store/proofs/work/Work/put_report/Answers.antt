@@ -1,8 +1,7 @@
 use Rattle.fax_core.specs.Machine.{with_grant}
 use Rattle.fax_core.specs.Ledger.{Ledger}
 use Rattle.fax_store.specs.Grant.{IsReport}
-use Rattle.fax_store.proofs.WorkLemmas.{steps_where}
-use Rattle.fax_store.proofs.FrameLemmas.{calls_by}
+use Rattle.fax_store.proofs.FrameLemmas.{calls_by, steps_where}
 use Rattle.fax_store.proofs.work.Work.put_report.Goals as goal
 
 pub returns-clause-changes : goal.returns-clause-changes
