@@ -22,8 +22,7 @@ use Rattle.std.proofs.lemmas.List.{map-append, take-map, nil_from_length, length
 use Rattle.std.proofs.lemmas.Option.{none-some, same_Some, slice_get_read, slice_get-get_or}
 use Rattle.std.proofs.lemmas.List.Elements.{All-take, recursion_from_All, All-from_recursion, filter_agree, filter_passes}
 use Rattle.std.proofs.lemmas.List.Sorted.{All-permutation, IsPermutation-sym, IsPermutation-trans}
-use Rattle.sqlite.specs.Command.TheVariants.{Select}
-use Rattle.sqlite.specs.Effect.{Database, Reads}
+use Rattle.sqlite.specs.Effect.{Database}
 use Rattle.sqlite.specs.Order.{Row}
 use Rattle.sqlite.specs.Program.{overlay}
 use Rattle.sqlite.specs.Query.{IsAnswer, Output, output, output_cmp}
@@ -62,7 +61,7 @@ use Rattle.fax_schema.proofs.ColumnLemmas.{all_kept}
 use Rattle.fax_schema.proofs.SelectLemmas.{each_passing}
 use Rattle.fax_tables.proofs.TablesLemmas.{row_of}
 use Rattle.fax_store.proofs.JobsLemmas.{ascend, Below}
-use Rattle.fax_schema.proofs.StatementTexts.{SelectsPage, page_query, prospect_names, prospect_project}
+use Rattle.fax_schema.proofs.StatementTexts.{SelectsPage, page_query, prospect_project}
 use Rattle.fax_store.proofs.JobsLemmas as waiting
 
 -- ---- the order of the choice
@@ -201,36 +200,27 @@ module _ (asked : Asked) (most : ℕ) (more : Row) (tests : List Term) where
   abbrev out : Row → Output
   out = waiting.out asked.t rest tests prospect_project
 
-  -- rows that pass are put in order, and those of the page are shown
-  in_page : (db : Database) (rows : List Row) → Reads (Select (record { lets = []; body = page_query tests }) prospect_names) db params rows
-      → (to : List Row) × IsPermutation (filter passing (db.trees jobs_tree)) to × (rows ≡ take most (map shown_of to)) × IsSorted (output_cmp (waiting.query asked.t rest tests prospect_project)) (map out to)
-  in_page db rows h =
-      let table = db.trees jobs_tree in
-      let a : IsAnswer (page_query tests) (overlay db.trees []) params rows = h.answer Null in
-      let staged = a.grouped ∙ each_passing passing (λ (r : Row). params ∷ r ∷ []) table in
-      let kept : a.kept ≡ map out (filter passing table) = a.distinct ∙ ap (map (output (page_query tests))) staged ∙ map-map _ _ _ in
-      let back = pull_back out a.kept a.ordered a.same (filter passing table) kept in (
-        back.0,
-        back.1,
-        a.shown ∙ ap (take most) (ap (map (λ (o : Output). o.1)) back.2 ∙ map-map _ _ _),
-        subst (IsSorted (output_cmp (waiting.query asked.t rest tests prospect_project))) back.2 a.sorted,
-      )
-
   module _ (old new : State) (m : Queue) (k : Ledger) (means : TablesMean old.now m k) (front : Front) (sql : List ℕ) (selects : SelectsPage sql tests)
       (near : (j : Job) → waiting.is_further asked.t rest tests prospect_project (row_of j) ≡ (is_other asked.but j && is_near front j)) where
-    -- what it shows is a page behind the front
+    -- rows that pass are put in order, and those shown are a page behind the front
     page_found : (rows : List Row) → Shown sql params old new rows → IsPage asked m front most rows
     page_found rows h =
-        let shown = in_page old.now rows (reads_as sql params old new our_tables means.schema _ selects.command selects.plain selects.unlisted rows h) in
+        let by = output_cmp (waiting.query asked.t rest tests prospect_project) in
+        let read = reads_as sql params old new our_tables means.schema _ selects.command selects.plain selects.unlisted rows h in
+        let a : IsAnswer (page_query tests) (overlay old.now.trees []) params rows = read.answer Null in
+        let staged = a.grouped ∙ each_passing passing (λ (r : Row). params ∷ r ∷ []) (old.now.trees jobs_tree) in
+        let kept : a.kept ≡ map out (filter passing (old.now.trees jobs_tree)) = a.distinct ∙ ap (map (output (page_query tests))) staged ∙ map-map _ _ _ in
+        let back = pull_back out a.kept a.ordered a.same (filter passing (old.now.trees jobs_tree)) kept in
+        let to : rows ≡ take most (map shown_of back.0) = a.shown ∙ ap (take most) (ap (map (λ (o : Output). o.1)) back.2 ∙ map-map _ _ _) in
         let is_wanted = λ (j : Job). is_other asked.but j && is_near front j in
-        let it = waiting.are_near asked.t rest tests prospect_project old.now m k means is_wanted near shown.0 shown.1 shown.3 in
+        let it = waiting.are_near asked.t rest tests prospect_project old.now m k means is_wanted near back.0 back.1 (subst (IsSorted by) back.2 a.sorted) in
         let all = all_wait old.now m k means asked.t in
         let is : it.0 ≡ filter (is_near front) (filter (is_other asked.but) all) = near_order old.now m k means asked.t is_wanted it.0 it.2 it.3 ∙ sym (filter_two (is_other asked.but) (is_near front) all) in
         record {
           all = all_asked old.now m k means asked;
           waiting = they_are_asked old.now m k means asked;
           is =
-              shown.2 ∙ ap (take most) it.1 ∙ take-map (λ (j : Job). prospect_shown (fields_of j)) most it.0
+              to ∙ ap (take most) it.1 ∙ take-map (λ (j : Job). prospect_shown (fields_of j)) most it.0
               ∙ ap (λ (js : List Job). map (λ (j : Job). prospect_shown (fields_of j)) (take most js)) is;
         }
 
@@ -460,9 +450,10 @@ page_ends rows jobs row is last = elim (ends jobs) [
     it.0,
     it.1,
     it.2,
-    same_Some row (shown it.1) (last ∙ ap (λ (xs : List Row). slice_get xs (length xs - 1)) (is ∙ ap (map shown) it.2 ∙ map-append shown it.0 (it.1 ∷ [])) 
+    same_Some row (shown it.1) (last ∙ ap (λ (xs : List Row). slice_get xs (length xs - 1)) (is ∙ ap (map shown) it.2 ∙ map-append shown it.0 (it.1 ∷ []))
         ∙ (let push = length_push (map shown it.0) (shown it.1) in
-        slice_get_read (map shown it.0 ++ shown it.1 ∷ []) _ _ (shown it.1) refl (omega (arith, push)) (sym (get_or_push (map shown it.0) (shown it.1) (shown it.1) _ (omega (arith, push)))))),
+        slice_get_read (map shown it.0 ++ shown it.1 ∷ []) _ _ (shown it.1) refl (omega (arith, push))
+        (sym (get_or_push (map shown it.0) (shown it.1) (shown it.1) _ (omega (arith, push)))))),
   )
 ]
 

@@ -1,6 +1,6 @@
 -- What BEGIN, COMMIT and ROLLBACK do, whatever the schema is.
-use Rattle.std.proofs.Common.{◌≡◌, ◌⊎◌, inl, inr, ℕ, List, [], length, nat_le, true, false, None, Ok, Err, Result, IsTrue, refl, sym, ap, subst}
-use Rattle.std.proofs.lemmas.Bool.{both_ways, leb-true}
+use Rattle.std.proofs.Common.{◌≡◌, ◌⊎◌, inl, inr, ℕ, List, [], length, nat_le, true, false, None, Ok, Err, Result, IsTrue, refl, sym, ap, subst, arith}
+use Rattle.std.proofs.lemmas.Bool.{leb-true}
 use Rattle.sqlite_schema.specs.declared.schema.Schema.{Schema}
 use Rattle.sqlite_resolve.specs.declared.compiled.Compiled.{Compiled}
 use Rattle.sqlite_resolve.specs.declared.error.CompileError.{CompileError}
@@ -80,13 +80,7 @@ module _ (old new : State) (sql : List ℕ) (command : Command) (is : IsControl 
 -- inside a transaction, what ends it isn't misplaced
 not_misplaced : (s : State) (command : Command) → (command ≡ Commit) ⊎ (command ≡ Rollback) → IsTrue s.in_transaction → (e : Error) → IsMisplaced s command e
     → ⊥
-not_misplaced s command ends inside e (inl (same, inl begins)) =
-    elim ends [ inl commit ↦ absurd (let no = begins.0 in cc) | inr back ↦ absurd (let no = begins.0 in cc) ]
-not_misplaced s command ends inside e (inl (same, inr outside)) = both_ways _ outside.1 inside
-not_misplaced s command ends inside e (inr (same, name, inl release, none)) =
-    elim ends [ inl commit ↦ absurd (let no = release in cc) | inr back ↦ absurd (let no = release in cc) ]
-not_misplaced s command ends inside e (inr (same, name, inr to, none)) =
-    elim ends [ inl commit ↦ absurd (let no = to in cc) | inr back ↦ absurd (let no = to in cc) ]
+not_misplaced s command ends inside e misplaced = grind arith
 
 module _ (old new : State) where
   -- a begin that is done was made outside a transaction, and leaves one under way over the same rows

@@ -1,5 +1,5 @@
 -- What the texts on floors, and on the replies that a client gives up, leave; and such replies, some at a time.
-use Rattle.std.proofs.Common.{◌≡◌, ◌≤◌, ◌<◌, ◌^◌, ℕ, zero, suc, List, [], ◌∷◌, map, filter, drop, false, not, ◌&&◌, Option, MatchOption, refl, sym, ap, ap₂, subst, ◌∙◌, arith, Bool, true, Ok, Err, Result, is_err, bytes_eq, IfErr, IsErrAnd, nat_le}
+use Rattle.std.proofs.Common.{◌≡◌, ◌≤◌, ◌<◌, ◌^◌, ℕ, List, [], ◌∷◌, map, filter, drop, false, not, ◌&&◌, Option, MatchOption, refl, sym, ap, ap₂, subst, ◌∙◌, arith, Bool, true, Ok, Err, Result, is_err, bytes_eq, IfErr, IsErrAnd, nat_le}
 use Rattle.sqlite_trees.proofs.ListLemmas.{filter-filter}
 use Rattle.std.proofs.Math.Bool.{and-true}
 use Rattle.std.proofs.lemmas.Bool.{cond_both}
@@ -49,13 +49,11 @@ pub floor_found : (client : List ℕ) (old new : State) (m : Queue) (k : Ledger)
 floor_found client old new m k means = counted_found client floors_tree SELECT_FLOOR.now _ select_floor (λ trees. refl) old new k.floor means.schema
     means.floors
 
-low : (n : ℕ) → (1 ≤ n → n < 10 ^ 18) → n < 10 ^ 18
-low zero some = omega arith
-low (suc n) some = some (omega arith)
-
 -- a floor is below one above the greatest number
 pub floor_low : (client : List ℕ) (floor : List ℕ → ℕ) → AreLawfulFloors floor → floor client < 10 ^ 18
-floor_low client floor lawful = low (floor client) (λ some. (lawful client some).1)
+floor_low client floor lawful =
+    let below : 1 ≤ floor client → floor client < 10 ^ 18 = λ some. (lawful client some).1 in
+    grind (arith, below)
 
 -- ---- replies that are given up
 

@@ -26,6 +26,7 @@ use Rattle.fax_tables.specs.declared.fault.StoreFault.{StoreFault}
 use Rattle.fax_tables.specs.declared.fault.StoreFault.TheVariants.{Unavailable}
 use Rattle.fax_store.proofs.StopLemmas.{withholds_by, withholds_then, edit_withholds, refused_withholds}
 use Rattle.fax_store.proofs.WorkLemmas.{found_in, holds_by, holds_then, keeps_by, moved_by, reads_same, stays_by, steps_fault, edit_holds, left_holds, never_ok}
+pub use Rattle.fax_tables.proofs.ResultLemmas.{on_err, or_weaker, passes_on, popped}
 pub use Rattle.fax_store.proofs.WorkLemmas.{err_as, goes_on, inside_by, move_by, moves_by, moves_of, ok_as, only_unavailable, reads_refused, refused_as, refused_steps, step_by, step_of, steps_where, there_as}
 
 -- the tables of a store that means something mean it now
@@ -188,19 +189,17 @@ module _ {S : Type 0} (g : Ghosts S) where
     abbrev pub Does : Queue → Ledger → Type 0
     Does m k = TablesMean (shown g old).now m k → HasRun sql params (shown g old) (shown g new) → TablesMean (shown g new).now (f m) (h k) × KeepsOthers our_tables tree (shown g old) (shown g new)
 
-    pub writes_by : Edits g old new result sql params → ((m : Queue) (k : Ledger) → Does m k) → Writes g old new result f h
-    writes_by edits does = record {
-      leaves = edits.leaves;
-      written = λ m₀ m k₀ k works s. step_by (shown g old) (shown g new) sql params tree result m₀ m (f m) k₀ k (h k) edits.leaves.served works s (edits.ran s.clean) (edits.left s.clean) edits.cause (does m k);
-      cause = edits.cause;
-    }
-
     pub writes_where_by : (P : Queue → Type 0) → Edits g old new result sql params → ((m : Queue) (k : Ledger) → P m → Does m k) → WritesWhere g old new result P f h
     writes_where_by P edits does = record {
       leaves = edits.leaves;
       written = λ m₀ m k₀ k p works s. step_by (shown g old) (shown g new) sql params tree result m₀ m (f m) k₀ k (h k) edits.leaves.served works s (edits.ran s.clean) (edits.left s.clean) edits.cause (does m k p);
       cause = edits.cause;
     }
+
+    pub writes_by : Edits g old new result sql params → ((m : Queue) (k : Ledger) → Does m k) → Writes g old new result f h
+    writes_by edits does =
+        let writes = writes_where_by (λ _. ⊤) edits (λ m k _. does m k) in
+        record { leaves = writes.leaves; written = λ m₀ m k₀ k. writes.written m₀ m k₀ k tt; cause = writes.cause }
 
     -- so does one that puts a row in, which breaks no rule where this is fit
     pub writes_if_by : (Fit : Queue → Ledger → Type 0) → Inserts g old new result sql params → ((m : Queue) (k : Ledger) → Does m k)

@@ -358,7 +358,8 @@ module _ (n : ℕ) where
           is = first.1;
           ordered = first.2;
           lawful = all_mapped IsLawfulGrant shut m.grants (λ x has was. cond_both (x.number == n) (closed x) x IsLawfulGrant
-              (λ _. record { limits = record { number = was.limits.number; job = was.limits.job; pages = was.limits.pages }; modem = was.modem }) (λ _. was)) means.lawful.grants;
+              (λ _. record { limits = record { number = was.limits.number; job = was.limits.job; pages = was.limits.pages }; modem = was.modem }) (λ _. was))
+              means.lawful.grants;
         } in
         let was = grants_changed old mid m (open_grants m) (calls_of m) k (parts_of old.now m k means) first.0 (map shut m.grants) now_shut in
         let ran = runs_as DELETE_HOLD.now close_params mid new our_tables was.schema _ delete_hold.is delete_hold.plain more.0 more.1 in
@@ -469,6 +470,6 @@ module _ {S : Type 0} (g : Ghosts S) (modem : List ℕ) (old new : Store S) wher
     found = hold_found modem (shown g old) (shown g new);
     lawful = λ m k means held. found_holds IsLawfulGrant (λ (one : Grant). bytes_eq one.modem modem) (open_grants m) held (all_kept IsLawfulGrant (λ (one : Grant). one.is_open) m.grants means.lawful.grants);
     none = λ db ours now.
-        none_keyed SELECT_HOLD.now holds_tree hold_tests hold_project _ select_hold (λ trees. refl) (modem_params modem) (shown g old) (shown g new) db ours now
-        1 (Text modem) (λ r. refl) (equal_texts modem modem ∙ (bytes_eq-Decides modem modem).1 refl);
+        none_keyed SELECT_HOLD.now holds_tree hold_tests hold_project _ select_hold (λ trees. refl) (modem_params modem) (shown g old) (shown g new) db ours
+        now 1 (Text modem) (λ r. refl) (equal_texts modem modem ∙ (bytes_eq-Decides modem modem).1 refl);
   }

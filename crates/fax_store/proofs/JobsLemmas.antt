@@ -56,7 +56,7 @@ rising : (n k : ℕ) → n < k → nat_cmp n k ≡ Less
 rising n k low = grind (arith, nat_tests)
 
 -- what is shown in order is itself in order, where the two orders are the same
-in_order_of : {X : Type 0} (cmp : Output → Output → Ordering) (out : X → Output) (less : X → X → Bool) 
+in_order_of : {X : Type 0} (cmp : Output → Output → Ordering) (out : X → Output) (less : X → X → Bool)
     → ((a b : X) → is_lt (cmp (out a) (out b)) ≡ less a b) → (xs : List X) → IsSorted cmp (map out xs) → IsSortedBy less xs
 in_order_of cmp out less same xs sorted i d from low =
     sym (same (get_or xs (i + 1) d) (get_or xs i d)) ∙ sym (ap₂ (λ a b. is_lt (cmp a b)) (get_or-map out xs (i + 1) d) (get_or-map out xs i d))
@@ -125,14 +125,18 @@ module _ (old new : State) (db : Database) (ours : db.schema ≡ our_tables) (no
       subst (λ (d : Database). IsPermutation (map of (d.trees jobs_tree)) (map (take n) rows)) now (subst (IsPermutation (map of table)) (sym told) same)
 
   -- so does the text on all jobs
-  pub jobs_shown : (rows : List Row) → Shown SELECT_JOBS.now [] old new rows → (found : List JobFields) → map (take 20) rows ≡ map job_shown found → JobsStand db found
+  pub jobs_shown : (rows : List Row) → Shown SELECT_JOBS.now [] old new rows → (found : List JobFields)
+      → map (take 20) rows ≡ map job_shown found → JobsStand db found
   jobs_shown rows h found is =
-      subst (IsPermutation (map (λ row. map (column row) job_places) (db.trees jobs_tree))) is (each_shown SELECT_JOBS.now job_project job_names select_jobs 20 (λ rs. refl) rows h)
+      subst (IsPermutation (map (λ row. map (column row) job_places) (db.trees jobs_tree))) is
+      (each_shown SELECT_JOBS.now job_project job_names select_jobs 20 (λ rs. refl) rows h)
 
   -- and the text on all jobs in brief
-  pub briefs_shown : (rows : List Row) → Shown SELECT_BRIEFS.now [] old new rows → (found : List JobFields) → map (take 19) rows ≡ map brief_shown found → BriefsStand db found
+  pub briefs_shown : (rows : List Row) → Shown SELECT_BRIEFS.now [] old new rows → (found : List JobFields)
+      → map (take 19) rows ≡ map brief_shown found → BriefsStand db found
   briefs_shown rows h found is =
-      subst (IsPermutation (map (λ row. map (column row) brief_places) (db.trees jobs_tree))) is (each_shown SELECT_BRIEFS.now brief_project brief_names select_briefs 19 (λ rs. refl) rows h)
+      subst (IsPermutation (map (λ row. map (column row) brief_places) (db.trees jobs_tree))) is
+      (each_shown SELECT_BRIEFS.now brief_project brief_names select_briefs 19 (λ rs. refl) rows h)
 
 -- ---- which jobs
 

@@ -148,17 +148,6 @@ module _ (client : List ℕ) (n : ℕ) where
   abbrev is_asked : Row → Bool
   is_asked r = passes replies_tree reply_tests reply_project params r
 
-  -- a row that passes is that of the entry asked for, and shows it
-  shows_entry : (r : Row) (e : Entry) → drop 1 r ≡ entry_columns e → is_asked r ≡ true → IsOf client n e × (show replies_tree reply_tests reply_project params r ≡ entry_shown e)
-  shows_entry r e h p =
-      let is = with_id r _ _ h in
-      let q : (are_equal (Text e.client) (Text client) && (are_equal (number e.number) (number n) && true)) ≡ true = sym (ap is_asked is) ∙ p in
-      let both = and_parts _ _ q in
-      let more = and_parts _ _ both.1 in (
-        record { client_is = (bytes_eq-Decides e.client client).0 (sym (equal_texts e.client client) ∙ both.0); number_is = same_number e.number n more.0 },
-        ap (show replies_tree reply_tests reply_project params) is,
-      )
-
   -- a row of the client and the number passes, whatever stands beside them
   key_passes : (id said status body : Value) → is_asked (id ∷ Text client ∷ number n ∷ said ∷ status ∷ body ∷ []) ≡ true
   key_passes id said status body =
@@ -179,8 +168,14 @@ module _ (client : List ℕ) (n : ℕ) where
         let shown = row_passes SELECT_REPLY.now replies_tree reply_tests reply_project _ select_reply (λ trees. refl) params old new old.now means.schema refl
         row h in
         let it = record_of entry_columns (old.now.trees replies_tree) k.replies (IsPermutation-same _ _ (sym means.replies)) shown.0 shown.1 in
-        let of = shows_entry shown.0 it.0 it.2 shown.2 in
-        (it.0, it.1, of.0, shown.3 ∙ of.1)
+        let is = with_id shown.0 _ _ it.2 in
+        let q : (are_equal (Text it.0.client) (Text client) && (are_equal (number it.0.number) (number n) && true)) ≡ true = sym (ap is_asked is) ∙ shown.2 in
+        let both = and_parts _ _ q in
+        let of : IsOf client n it.0 = record {
+          client_is = (bytes_eq-Decides it.0.client client).0 (sym (equal_texts it.0.client client) ∙ both.0);
+          number_is = same_number it.0.number n (and_parts _ _ both.1).0;
+        } in
+        (it.0, it.1, of, shown.3 ∙ ap (show replies_tree reply_tests reply_project params) is)
 
   -- so where none is found there is no such row
   pub none_found : (old new : State) (db : Database) → db.schema ≡ our_tables → old.now ≡ db → FindsRow SELECT_REPLY.now params old new None → ¬ HasReply db client n

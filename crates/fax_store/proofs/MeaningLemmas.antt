@@ -9,7 +9,6 @@ use Rattle.sqlite.specs.declared.types.Value.{Value}
 use Rattle.sqlite.specs.declared.types.Value.TheVariants.{Blob, Int, Text}
 use Rattle.fax_job.specs.Job.{is_lawful_killtime}
 use Rattle.fax_value.specs.Name.{IsName}
-use Rattle.fax_job.specs.Pair.{Pair, ArePairs}
 use Rattle.fax_job.specs.Spelling.{printed}
 use Rattle.fax_job.specs.declared.job.Call.{Call}
 use Rattle.fax_job.specs.declared.job.Call.TheVariants.{Connected, Busy, NoAnswer, NoCarrier, Other}
@@ -87,10 +86,6 @@ one_killtime None (Some t) lawful other is = absurd (let no = rw (← is) at oth
 one_killtime (Some t) None lawful other is = absurd (let no = rw is at lawful in cc)
 one_killtime (Some t) (Some u) lawful other is = ap Some is
 
--- pairs that are printed alike are the same
-one_list : (a b : List Pair) → ArePairs a → ArePairs b → printed a ≡ printed b → a ≡ b
-one_list a b are others is = spelled_alone (printed a) a b (printed_spells a are) (subst (λ text. Spells text b) (sym is) (printed_spells b others))
-
 -- ---- records
 
 -- a row has one job
@@ -101,7 +96,8 @@ one_job a b lawful other is =
     let number = λ (at : ℕ). ap (λ row. number_in (column row at)) is in
     let text = λ (at : ℕ). ap (λ row. text_in (column row at)) is in
     let killtime = one_killtime f.killtime g.killtime (killtime_of f lawful.limits) (killtime_of g other.limits) (number 8) in
-    let extra = one_list f.extra g.extra lawful.formed.extra other.formed.extra (text 6) in
+    let extra = spelled_alone (printed f.extra) f.extra g.extra (printed_spells f.extra lawful.formed.extra)
+    (subst (λ text. Spells text g.extra) (sym (text 6)) (printed_spells g.extra other.formed.extra)) in
     let phase = one_of phase_number phase_at phase_back f.phase g.phase (number 18) in
     let wish = one_of wish_number wish_at wish_back f.wish g.wish (number 19) in
     let same : f ≡ g =

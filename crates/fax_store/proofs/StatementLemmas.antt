@@ -21,7 +21,7 @@ use Rattle.fax_schema.proofs.StatementForms.{Commands}
 use Rattle.fax_schema.proofs.WriteLemmas.{went}
 use Rattle.sqlite_resolve.specs.declared.error.CompileError.{CompileError}
 
-same_value : {B E : Type 0} {a b : B} → ◌≡◌ {A = Result B E} (Ok a) (Ok b) → a ≡ b
+pub same_value : {B E : Type 0} {a b : B} → ◌≡◌ {A = Result B E} (Ok a) (Ok b) → a ≡ b
 same_value e = cc
 
 module _ (old new : State) (sql : List ℕ) (params : Row) where

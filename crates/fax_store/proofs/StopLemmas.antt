@@ -1,5 +1,5 @@
 -- What a crash behind a call may leave.
-use Rattle.std.proofs.Common.{◌≡◌, ◌⊎◌, inl, inr, ℕ, Bool, List, [], false, true, None, Ok, Err, Result, is_err, IsTrue, refl, sym, ap, subst, ◌∙◌}
+use Rattle.std.proofs.Common.{◌≡◌, ◌⊎◌, inl, inr, ℕ, Bool, List, [], false, true, None, Ok, Err, Result, is_err, IsTrue, refl, sym, ap, subst, ◌∙◌, arith}
 use Rattle.std.specs.Prelude.{⊤}
 use Rattle.std.proofs.lemmas.Bool.{both_ways}
 use Rattle.sqlite_trees.specs.Tree.{Trees}
@@ -48,10 +48,8 @@ IsQuiet other = ⊥
 
 -- a quiet command commits nothing
 quiet_nothing : (s : State) (command : Command) (text : List ℕ) (params : Row) (found : Trees) → IsQuiet command → CommitsAs s None command text params found → ⊥
-quiet_nothing s Begin text params found is (inl ends) = elim ends.0 [ inl commit ↦ absurd (let bad = commit in cc) | inr release ↦ absurd (let bad = release.2 in cc) ]
-quiet_nothing s Rollback text params found is (inl ends) = elim ends.0 [ inl commit ↦ absurd (let bad = commit in cc) | inr release ↦ absurd (let bad = release.2 in cc) ]
-quiet_nothing s Begin text params found is (inr writes) = absurd (let bad = writes.3 in cc)
-quiet_nothing s Rollback text params found is (inr writes) = absurd (let bad = writes.3 in cc)
+quiet_nothing s Begin text params found is h = grind arith
+quiet_nothing s Rollback text params found is h = grind arith
 quiet_nothing s _ text params found is h = absurd is
 
 -- so a crash behind a quiet command leaves what it could leave before

@@ -23,15 +23,6 @@ pub there_as : {X Y : Type 0} (f : X → Y) (o : Option X) (y : Y) → Some y �
 there_as f None y e = absurd cc
 there_as f (Some x) y e = (x, refl, same_Some y (f x) e)
 
--- what holds where a call is done, or where it is refused, says more
-pub ok_as : {A : Type 0} {P Q : Type 0} (result : Result A StoreFault) → (P → Q) → OnOk result P → OnOk result Q
-ok_as (Ok a) more h = more h
-ok_as (Err e) more h = tt
-
-pub err_as : {A : Type 0} {P Q : Type 0} (result : Result A StoreFault) → (P → Q) → OnErr result P → OnErr result Q
-err_as (Ok a) more h = tt
-err_as (Err e) more h = more h
-
 -- what a refusal leaves was committed
 committed_is : (old new : State) → LeavesCommit old new → IsTrue new.is_open → new.committed ≡ old.committed
 committed_is old new (inl same) is_open = same.0.committed_is
@@ -54,6 +45,12 @@ moves_by old new (Err e) m₀ m after k₀ k kept served holds works s means =
 pub both_as : {A : Type 0} {P Q R S : Type 0} (result : Result A StoreFault) → (P → R) → (Q → S) → MatchResult result (λ _. P) (λ _. Q) → MatchResult result (λ _. R) (λ _. S)
 both_as (Ok a) done refused h = done h
 both_as (Err e) done refused h = refused h
+
+pub ok_as : {A : Type 0} {P Q : Type 0} (result : Result A StoreFault) → (P → Q) → OnOk result P → OnOk result Q
+ok_as result more = both_as result more (λ t. t)
+
+pub err_as : {A : Type 0} {P Q : Type 0} (result : Result A StoreFault) → (P → Q) → OnErr result P → OnErr result Q
+err_as result more = both_as result (λ t. t) more
 
 -- what a call tells where X holds
 pub given_ok : {A : Type 0} (X Y : Type 0) (result : Result A StoreFault) → (X → OnOk result Y) → OnOk result (X → Y)

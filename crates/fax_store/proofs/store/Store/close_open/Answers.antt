@@ -6,10 +6,6 @@ use Rattle.fax_store.proofs.GrantLemmas.{close_counted, close_params, grant_clos
 use Rattle.fax_store.proofs.FrameLemmas.{edits_with, inside_by, moves_by, ok_as, runs_then, step_of, writes_where_refused}
 use Rattle.fax_store.proofs.store.Store.close_open.Goals as goal
 
-pub returns-in_err-run : goal.returns-in_err-run
-returns-in_err-run g c =
-    writes_where_refused g.S.Store _ c.from_residual.ensures.1 c.in_err-run.ensures.leaves c.in_err-run.ensures.cause
-
 pub returns-in_err-run-2 : goal.returns-in_err-run-2
 returns-in_err-run-2 g c =
     let told = c.from_residual-in_err-run-2.ensures.1 in

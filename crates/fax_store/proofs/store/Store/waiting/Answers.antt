@@ -2,9 +2,8 @@ use Rattle.std.proofs.Common.{subst, rules}
 use Rattle.sqlite.specs.Held.{state}
 use Rattle.sqlite.specs.State.{Shown}
 use Rattle.fax_schema.specs.declared.statements.TheConstants.{SELECT_WAITING}
-use Rattle.fax_tables.proofs.ResultLemmas.{or_weaker}
 use Rattle.fax_store.proofs.JobsLemmas as waiting
-use Rattle.fax_store.proofs.FrameLemmas.{finds_as}
+use Rattle.fax_store.proofs.FrameLemmas.{finds_as, or_weaker}
 use Rattle.fax_store.proofs.store.Store.waiting.Goals as goal
 
 pub returns : goal.returns
