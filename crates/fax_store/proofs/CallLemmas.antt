@@ -1,10 +1,9 @@
 -- What the texts on calls read and write.
-use Rattle.std.proofs.Common.{◌≡◌, ◌≢◌, ◌⊎◌, inl, inr, ◌≤◌, ℕ, pos, List, [], ◌∷◌, ◌++◌, map, filter, drop, Bool, true, not, ◌&&◌, Option, Some, None, MatchOption, IsTrue, refl, sym, ap, subst, ◌∙◌, arith}
+use Rattle.std.proofs.Common.{◌≡◌, ◌≢◌, ◌⊎◌, inl, inr, ◌≤◌, ℕ, pos, List, [], ◌∷◌, ◌++◌, map, filter, drop, Bool, true, not, ◌&&◌, Option, Some, None, MatchOption, IsTrue, refl, sym, ap, subst, ◌∙◌, arith, bytes_eq}
 use Rattle.sqlite_trees.specs.Tree.{Trees}
 use Rattle.fax_store.proofs.FoundLemmas.{none_passes, row_passes, with_id}
 use Rattle.std.proofs.lemmas.List.Elements.{filter_agree}
 use Rattle.std.proofs.Math.Bool.{and-true}
-use Rattle.std.specs.Str.{bytes_eq}
 use Rattle.std.proofs.lemmas.Bool.{both_ways, cond_both, false_from_ne_true, cases_eq}
 use Rattle.std.proofs.lemmas.Slice.Eq.{bytes_eq-Decides}
 use Rattle.sqlite.specs.Cast.{cast_row}
@@ -112,10 +111,6 @@ module _ (dial : List ℕ) where
   of_number : (project : List _) (r : Row) (d : List ℕ) (n : ℕ) → drop 1 r ≡ call_columns d n → passes calls_tree call_tests project params r ≡ bytes_eq d dial
   of_number project r d n is = is_asked project r ∙ ap (λ columns. are_equal (column columns 0) (Text dial) && true) is ∙ and-true (are_equal (Text d) (Text dial)) ∙ equal_texts d dial
 
-  -- a row of `calls` is shown as its count
-  shown_as : (r : Row) (d : List ℕ) (n : ℕ) → drop 1 r ≡ call_columns d n → show calls_tree call_tests call_project params r ≡ number n ∷ []
-  shown_as r d n is = ap (show calls_tree call_tests call_project params) (with_id r _ _ is)
-
   -- what is found in such a table is the count, or nothing where that is 0
   pub counted_found : (tree : ℕ) (sql : List ℕ) (names : List (List ℕ)) → Selects sql tree call_tests call_project names → ((trees : Trees) → overlay trees [] tree ≡ trees tree) → (old new : State) (count : List ℕ → ℕ) → old.now.schema ≡ our_tables
       → AreCounted count (map (drop 1) (old.now.trees tree)) → (found : Option Row) → FindsRow sql params old new found → MatchOption found (count dial ≡ 0) (λ row. row ≡ number (count dial) ∷ [])
@@ -130,7 +125,7 @@ module _ (dial : List ℕ) where
       let one = row_passes sql tree call_tests call_project names selects plain params old new old.now has refl row h in
       let it = counted.each (drop 1 one.0) (mapped_has (drop 1) (old.now.trees tree) one.0 one.1) in
       let same : it.0 ≡ dial = (bytes_eq-Decides it.0 dial).0 (sym (of_number call_project one.0 it.0 (count it.0) it.1) ∙ one.2) in
-      one.3 ∙ shown_as one.0 it.0 (count it.0) it.1 ∙ ap (λ d. number (count d) ∷ []) same
+      one.3 ∙ ap (show calls_tree call_tests call_project params) (with_id one.0 _ _ it.1) ∙ ap (λ d. number (count d) ∷ []) same
 
   -- what the text on calls finds is how many are open to the number, or nothing where none is
   pub calls_found : (old new : State) (count : List ℕ → ℕ) → old.now.schema ≡ our_tables → AreCounted count (map (drop 1) (old.now.trees calls_tree)) → (found : Option Row) → FindsRow SELECT_OPEN.now params old new found

@@ -1,16 +1,19 @@
 -- The jobs that wait, read a page at a time.
-use Rattle.std.proofs.Common.{◌≡◌, ◌<◌, ◌≤◌, ◌+◌, ◌-◌, ◌⊎◌, inl, inr, ℕ, List, [], ◌∷◌, ◌++◌, map, filter, take, drop, length, All, Bool, true, false, cond, not, ◌&&◌, ◌||◌, leb, refl, sym, ap, ap₂, subst, ◌∙◌, arith, append_assoc, append-nil, take-append-drop, get_or, Ordering, Less, Equal, Greater, is_lt, is_gt, is_eq, true≢false}
+use Rattle.std.proofs.Common.{◌≡◌, Ok, Err, IsErrAnd, ◌<◌, ◌≤◌, ◌+◌, ◌-◌, ◌⊎◌, inl, inr, ℕ, List, [], ◌∷◌, ◌++◌, map, filter, take, drop, length, All, Bool, true, false, cond, not, ◌&&◌, ◌||◌, leb, refl, sym, ap, ap₂, subst, ◌∙◌, arith, append_assoc, append-nil, take-append-drop, get_or, Ordering, Less, Equal, Greater, is_lt, is_gt, is_eq, true≢false, ◌==◌, nat_lt, Result, Vec, Option, Some, None, find, slice_get, IsPermutation, IsSorted, IsSortedBy}
 use Rattle.fax_tables.proofs.ResultLemmas.{answered}
 use Rattle.fax_tables.specs.declared.fault.StoreFault.{StoreFault}
-use Rattle.fax_store.specs.Calls.{Queries, Recalls, shown as shown_by}
+use Rattle.fax_tables.specs.declared.fault.StoreFault.TheVariants.{Unavailable}
+use Rattle.fax_store.specs.Store.{Means, Serves}
+use Rattle.fax_store.specs.declared.candidates.Candidates.{Candidates}
+use Rattle.std.specs.Vec.Iter.{into_iter_items}
+use Rattle.std.specs.declared.vec.IntoIter.{IntoIter}
+use Rattle.fax_store.specs.Calls.{Looks, Queries, Recalls, shown as shown_by}
 use Rattle.fax_store.specs.declared.store.Store.{Store}
 use Rattle.sqlite_trees.specs.declared.store.Store.{Ghosts}
-use Rattle.std.proofs.Math.Bool.{and-true, or_comm}
-use Rattle.std.specs.Prelude.{◌==◌, nat_lt, Result, Vec, Option, Some, None, find, slice_get}
+use Rattle.std.proofs.Math.Bool.{or_comm}
 use Rattle.std.specs.Cmp.{IsTotalOrder}
 use Rattle.std.specs.List.{AllByRecursion}
-use Rattle.std.specs.List.Sorted.{IsPermutation, IsSorted, IsSortedBy}
-use Rattle.std.specs.Ordering.{nat_cmp, on, ordering_reverse, ordering_then, then_cmp}
+use Rattle.std.specs.Ordering.{nat_cmp, on, ordering_reverse, then_cmp}
 use Rattle.std.proofs.lemmas.Bool.{and_parts, leb-true, cases_Bool}
 use Rattle.std.proofs.lemmas.Bool.Decides.{nat_tests}
 use Rattle.std.proofs.lemmas.Map.Text.{is_eq-slice_cmp}
@@ -19,8 +22,7 @@ use Rattle.std.proofs.lemmas.List.{map-append, take-map, nil_from_length, length
 use Rattle.std.proofs.lemmas.Option.{none-some, same_Some, slice_get_read, slice_get-get_or}
 use Rattle.std.proofs.lemmas.List.Elements.{All-take, recursion_from_All, All-from_recursion, filter_agree, filter_passes}
 use Rattle.std.proofs.lemmas.List.Sorted.{All-permutation, IsPermutation-sym, IsPermutation-trans}
-use Rattle.sqlite.specs.Command.TheVariants.{Select}
-use Rattle.sqlite.specs.Effect.{Database, Reads}
+use Rattle.sqlite.specs.Effect.{Database}
 use Rattle.sqlite.specs.Order.{Row}
 use Rattle.sqlite.specs.Program.{overlay}
 use Rattle.sqlite.specs.Query.{IsAnswer, Output, output, output_cmp}
@@ -46,22 +48,20 @@ use Rattle.fax_core.specs.Queue.{Queue, job_numbered}
 use Rattle.fax_core.specs.State.{is_due}
 use Rattle.fax_core.proofs.RecordLemmas.{within_limits_of}
 use Rattle.fax_value.specs.Limits.{last_job}
-use Rattle.fax_store.specs.Candidates.{AreAsked, IsPage, StandsAt, front_of, is_behind, is_beyond, is_last, is_near, is_other, next_front, value_of}
+use Rattle.fax_store.specs.Candidates.{Advances, AreAsked, IsPage, Reaches, StandsAt, front_of, is_behind, is_beyond, is_last, is_near, is_other, next_front, value_of}
 use Rattle.fax_store.specs.declared.candidates.Asked.{Asked}
 use Rattle.fax_store.specs.Job.{AreWaiting}
 use Rattle.fax_store.specs.declared.candidates.Front.{Front}
-use Rattle.fax_schema.specs.declared.statements.TheConstants.{SELECT_FIRST, SELECT_BEHIND_NUMBER, SELECT_BEHIND_TIME, SELECT_BEHIND_PRIORITY}
 use Rattle.fax_store.specs.declared.candidates.Front.TheVariants.{First, Number, Time, Priority}
 use Rattle.fax_tables.specs.Job.{IsLawfulJob, prospect, prospect_shown}
 use Rattle.fax_tables.specs.Row.{number}
 use Rattle.fax_schema.specs.Schema.{our_tables, jobs_tree}
 use Rattle.fax_tables.specs.Tables.{TablesMean}
 use Rattle.fax_schema.proofs.ColumnLemmas.{all_kept}
-use Rattle.fax_schema.proofs.CompareLemmas.{is_number, more_than}
 use Rattle.fax_schema.proofs.SelectLemmas.{each_passing}
 use Rattle.fax_tables.proofs.TablesLemmas.{row_of}
-use Rattle.fax_store.proofs.JobsLemmas.{number_of, ascend, Below}
-use Rattle.fax_schema.proofs.StatementTexts.{SelectsPage, number_tests, other_tests, page_query, priority_tests, prospect_names, prospect_project, select_behind_number, select_behind_priority, select_behind_time, select_first, time_tests}
+use Rattle.fax_store.proofs.JobsLemmas.{ascend, Below}
+use Rattle.fax_schema.proofs.StatementTexts.{SelectsPage, page_query, prospect_project}
 use Rattle.fax_store.proofs.JobsLemmas as waiting
 
 -- ---- the order of the choice
@@ -73,17 +73,9 @@ order = then_cmp (on (λ (j : Job). j.priority) nat_cmp) (then_cmp (on (λ (j : 
 is_total : IsTotalOrder order
 is_total = then_total (on_total (λ (j : Job). j.priority) nat_cmp_total) (then_total (on_total (λ (j : Job). j.tts) nat_cmp_total) (on_total (λ (j : Job). j.number) nat_cmp_total))
 
--- three numbers compared in turn are less by the first, else by the second, else by the third
-less : (p q s u n k : ℕ) → is_lt (ordering_then (nat_cmp p q) (ordering_then (nat_cmp s u) (nat_cmp n k))) ≡ (nat_lt p q || ((p == q) && (nat_lt s u || ((s == u) && nat_lt n k))))
-less p q s u n k = grind (arith, nat_tests)
-
 -- a job is less in this order where it is the better choice
 by_less : (a b : Job) → is_lt (order a b) ≡ better a b
-by_less a b = less a.priority b.priority a.tts b.tts a.number b.number
-
--- three numbers compared in turn are never equal where the third rises
-apart : (p q s u n k : ℕ) → n < k → is_eq (ordering_then (nat_cmp p q) (ordering_then (nat_cmp s u) (nat_cmp n k))) ≡ false
-apart p q s u n k low = grind (arith, nat_tests)
+by_less a b = grind (arith, nat_tests)
 
 -- each goes before every later one
 abbrev Goes : Job → Job → Type 0
@@ -117,33 +109,27 @@ rises_sorted [] free = tt
 rises_sorted (x ∷ xs) free = rises_inserted x _ (all-permutation _ xs (sort_by order xs)
     (IsPermutation-sym (sort_by order xs) xs (IsPermutation-sort_by order is_total xs)) free.0) (rises_sorted xs free.1)
 
--- a job that comes before another isn't the worse choice
-not_after : (a b : Job) → Comes a b → better b a ≡ false
-not_after a b e = sym (by_less b a) ∙ ap is_lt (is_total.antisymm b a ∙ ap ordering_reverse e)
-
 -- ---- all jobs that wait
 
 -- two filters in turn are one of both
 filter_two : (p q : Job → Bool) (xs : List Job) → filter q (filter p xs) ≡ filter (λ j. p j && q j) xs
-filter_two p q [] = refl
-filter_two p q (x ∷ xs) =
-    let rest = filter (λ j. p j && q j) xs in
-    let more = filter_two p q xs in
-    elim (p x) as (λ a. filter q (cond a (x ∷ filter p xs) (filter p xs)) ≡ cond (a && q x) (x ∷ rest) rest)
-    [ true ↦ ap (λ l. cond (q x) (x ∷ l) l) more | false ↦ more ]
+filter_two p q xs =
+    let passing = recursion_from_All (λ x. p x ≡ true) (filter p xs) (filter_passes p xs) in
+    filter_same q (λ x. p x && q x) (filter p xs) (all_weaker (λ x. p x ≡ true) (λ x. q x ≡ (p x && q x)) (λ x on. rw on refl) (filter p xs) passing)
+    ∙ filter-filter (λ x. p x && q x) p (λ x both. (and_parts (p x) (q x) both).0) xs
 
 module _ (db : Database) (m : Queue) (k : Ledger) (means : TablesMean db m k) (t : ℕ) where
   abbrev all_due : List Job
   all_due = filter (λ (j : Job). is_due j t) m.jobs
 
   -- the jobs of the queue stand with rising numbers
-  rises : IsAscending (Below number_of) m.jobs
+  rises : IsAscending Below m.jobs
   rises = ascend m.jobs (subst IsTable means.jobs means.ordered.jobs.rise)
 
   -- no two of the jobs that are due tie
   no_ties : HasNoTies all_due
-  no_ties = ascending_weaker (Below number_of) (λ (a b : Job). is_eq (order a b) ≡ false) (λ a b low. apart a.priority b.priority a.tts b.tts a.number b.number low) all_due
-      (ascending-filter (Below number_of) (λ (j : Job). is_due j t) m.jobs rises)
+  no_ties = ascending_weaker Below (λ (a b : Job). is_eq (order a b) ≡ false) (λ a b low. grind (arith, nat_tests)) all_due
+      (ascending-filter Below (λ (j : Job). is_due j t) m.jobs rises)
 
   -- in the order of the choice
   abbrev pub all_wait : List Job
@@ -157,14 +143,11 @@ module _ (db : Database) (m : Queue) (k : Ledger) (means : TablesMean db m k) (t
   pub they_wait : AreWaiting t m all_wait
   they_wait = record {
     due = IsPermutation-sym all_wait all_due (IsPermutation-sort_by order is_total all_due);
-    ordered = λ i d from low. not_after (get_or all_wait i d) (get_or all_wait (i + 1) d) (ascending-get_or Comes all_wait i (i + 1) d come (omega arith) (omega (arith, low)));
+    ordered = λ i d from low. let a = get_or all_wait i d in
+        let b = get_or all_wait (i + 1) d in
+        let before = ascending-get_or Comes all_wait i (i + 1) d come (omega arith) (omega (arith, low)) in
+        sym (by_less b a) ∙ ap is_lt (is_total.antisymm b a ∙ ap ordering_reverse before);
   }
-
-  -- the jobs that wait have one order only
-  one_order : (jobs : List Job) → AreWaiting t m jobs → jobs ≡ all_wait
-  one_order jobs w =
-      let sorted : IsSorted order jobs = λ i d from low. by_less (get_or jobs (i + 1) d) (get_or jobs i d) ∙ w.ordered i d from low in
-      sorted_is-sort_by order is_total all_due jobs no_ties w.due sorted
 
   -- those that are near, in order, are those of all that wait
   near_order : (near : Job → Bool) (jobs : List Job) → IsPermutation (filter (λ j. is_due j t && near j) m.jobs) jobs → IsSortedBy better jobs → jobs ≡ filter near all_wait
@@ -187,12 +170,10 @@ module _ (db : Database) (m : Queue) (k : Ledger) (means : TablesMean db m k) (a
 
   -- the jobs asked for have one order only
   one_asked : (jobs : List Job) → AreAsked asked m jobs → jobs ≡ all_asked
-  one_asked jobs w = w.is ∙ ap (filter (is_other asked.but)) (one_order db m k means asked.t w.all w.waiting)
-
-  -- the jobs asked for stand with the better before the worse
-  asked_in_order : IsAscending Goes all_asked
-  asked_in_order = ascending-filter Goes (is_other asked.but) (all_wait db m k means asked.t)
-      (ascending_weaker Comes Goes (λ a b e. sym (by_less a b) ∙ ap is_lt e) _ (come db m k means asked.t))
+  one_asked jobs w =
+      let sorted : IsSorted order w.all = λ i d from low. by_less (get_or w.all (i + 1) d) (get_or w.all i d) ∙ w.waiting.ordered i d from low in
+      w.is ∙ ap (filter (is_other asked.but))
+      (sorted_is-sort_by order is_total (all_due db m k means asked.t) w.all (no_ties db m k means asked.t) w.waiting.due sorted)
 
 -- what holds of each job of the queue holds of each that is asked for
 pub all_hold : (P : Job → Type 0) (asked : Asked) (m : Queue) (jobs : List Job) → AreAsked asked m jobs → All P m.jobs → All P jobs
@@ -219,36 +200,27 @@ module _ (asked : Asked) (most : ℕ) (more : Row) (tests : List Term) where
   abbrev out : Row → Output
   out = waiting.out asked.t rest tests prospect_project
 
-  -- rows that pass are put in order, and those of the page are shown
-  in_page : (db : Database) (rows : List Row) → Reads (Select (record { lets = []; body = page_query tests }) prospect_names) db params rows
-      → (to : List Row) × IsPermutation (filter passing (db.trees jobs_tree)) to × (rows ≡ take most (map shown_of to)) × IsSorted (output_cmp (waiting.query asked.t rest tests prospect_project)) (map out to)
-  in_page db rows h =
-      let table = db.trees jobs_tree in
-      let a : IsAnswer (page_query tests) (overlay db.trees []) params rows = h.answer Null in
-      let staged = a.grouped ∙ each_passing passing (λ (r : Row). params ∷ r ∷ []) table in
-      let kept : a.kept ≡ map out (filter passing table) = a.distinct ∙ ap (map (output (page_query tests))) staged ∙ map-map _ _ _ in
-      let back = pull_back out a.kept a.ordered a.same (filter passing table) kept in (
-        back.0,
-        back.1,
-        a.shown ∙ ap (take most) (ap (map (λ (o : Output). o.1)) back.2 ∙ map-map _ _ _),
-        subst (IsSorted (output_cmp (waiting.query asked.t rest tests prospect_project))) back.2 a.sorted,
-      )
-
   module _ (old new : State) (m : Queue) (k : Ledger) (means : TablesMean old.now m k) (front : Front) (sql : List ℕ) (selects : SelectsPage sql tests)
       (near : (j : Job) → waiting.is_further asked.t rest tests prospect_project (row_of j) ≡ (is_other asked.but j && is_near front j)) where
-    -- what it shows is a page behind the front
+    -- rows that pass are put in order, and those shown are a page behind the front
     page_found : (rows : List Row) → Shown sql params old new rows → IsPage asked m front most rows
     page_found rows h =
-        let shown = in_page old.now rows (reads_as sql params old new our_tables means.schema _ selects.command selects.plain selects.unlisted rows h) in
+        let by = output_cmp (waiting.query asked.t rest tests prospect_project) in
+        let read = reads_as sql params old new our_tables means.schema _ selects.command selects.plain selects.unlisted rows h in
+        let a : IsAnswer (page_query tests) (overlay old.now.trees []) params rows = read.answer Null in
+        let staged = a.grouped ∙ each_passing passing (λ (r : Row). params ∷ r ∷ []) (old.now.trees jobs_tree) in
+        let kept : a.kept ≡ map out (filter passing (old.now.trees jobs_tree)) = a.distinct ∙ ap (map (output (page_query tests))) staged ∙ map-map _ _ _ in
+        let back = pull_back out a.kept a.ordered a.same (filter passing (old.now.trees jobs_tree)) kept in
+        let to : rows ≡ take most (map shown_of back.0) = a.shown ∙ ap (take most) (ap (map (λ (o : Output). o.1)) back.2 ∙ map-map _ _ _) in
         let is_wanted = λ (j : Job). is_other asked.but j && is_near front j in
-        let it = waiting.are_near asked.t rest tests prospect_project old.now m k means is_wanted near shown.0 shown.1 shown.3 in
+        let it = waiting.are_near asked.t rest tests prospect_project old.now m k means is_wanted near back.0 back.1 (subst (IsSorted by) back.2 a.sorted) in
         let all = all_wait old.now m k means asked.t in
         let is : it.0 ≡ filter (is_near front) (filter (is_other asked.but) all) = near_order old.now m k means asked.t is_wanted it.0 it.2 it.3 ∙ sym (filter_two (is_other asked.but) (is_near front) all) in
         record {
           all = all_asked old.now m k means asked;
           waiting = they_are_asked old.now m k means asked;
           is =
-              shown.2 ∙ ap (take most) it.1 ∙ take-map (λ (j : Job). prospect_shown (fields_of j)) most it.0
+              to ∙ ap (take most) it.1 ∙ take-map (λ (j : Job). prospect_shown (fields_of j)) most it.0
               ∙ ap (λ (js : List Job). map (λ (j : Job). prospect_shown (fields_of j)) (take most js)) is;
         }
 
@@ -258,64 +230,29 @@ unfolding unary
 not_is true = refl
 not_is false = refl
 
--- IS NOT, of a text and a number that may be named
-is_not_null : (text : List ℕ) → is_true (unary Not (binary (Is Binary) (Text text) Null)) ≡ true
-unfolding unary binary value_cmp
-is_not_null text = refl
-
 -- the job's number IS NOT the one left out: the job is to another number
-is_not : (but : Option (List ℕ)) (j : Job) → is_true (unary Not (binary (Is Binary) (Text j.dial) (value_of but))) ≡ is_other but j
-unfolding binary
-is_not None j = is_not_null j.dial
+pub is_not : (but : Option (List ℕ)) (j : Job) → is_true (unary Not (binary (Is Binary) (Text j.dial) (value_of but))) ≡ is_other but j
+unfolding unary binary value_cmp
+is_not None j = refl
 is_not (Some dial) j = not_is (is_eq (value_cmp (Text j.dial) (Text dial))) ∙ ap not (ap is_eq (value_cmp-Text j.dial dial) ∙ is_eq-slice_cmp j.dial dial)
 
-module _ (asked : Asked) (most : ℕ) (old new : State) (m : Queue) (k : Ledger) (means : TablesMean old.now m k) (rows : List Row) where
-  -- what the first text shows is the first page
-  pub first_found : Shown SELECT_FIRST.now (params asked most [] other_tests) old new rows → IsPage asked m First most rows
-  first_found = page_found asked most [] other_tests old new m k means First SELECT_FIRST.now select_first (λ j. ap (λ b. b && true) (is_not asked.but j)) rows
-
-  -- what the text behind a number shows is a page of the same priority and time, with later numbers
-  pub number_found : (p s n : ℕ) → Shown SELECT_BEHIND_NUMBER.now (params asked most (number p ∷ number s ∷ number n ∷ []) number_tests) old new rows → IsPage asked m (Number p s n) most rows
-  number_found p s n =
-      page_found asked most (number p ∷ number s ∷ number n ∷ []) number_tests old new m k means (Number p s n) SELECT_BEHIND_NUMBER.now select_behind_number
-      (λ j. ap₂ ◌&&◌ (is_not asked.but j) (ap₂ ◌&&◌ (is_number j.priority p) (ap₂ ◌&&◌ (is_number j.tts s) (ap (λ b. b && true) (more_than j.number n) ∙ and-true (nat_lt n j.number))))) rows
-
-  -- what the text behind a time shows is a page of the same priority, with later times
-  pub time_found : (p s : ℕ) → Shown SELECT_BEHIND_TIME.now (params asked most (number p ∷ number s ∷ []) time_tests) old new rows → IsPage asked m (Time p s) most rows
-  time_found p s =
-      page_found asked most (number p ∷ number s ∷ []) time_tests old new m k means (Time p s) SELECT_BEHIND_TIME.now select_behind_time
-      (λ j. ap₂ ◌&&◌ (is_not asked.but j) (ap₂ ◌&&◌ (is_number j.priority p) (ap (λ b. b && true) (more_than j.tts s) ∙ and-true (nat_lt s j.tts)))) rows
-
-  -- what the text behind a priority shows is a page of later priorities
-  pub priority_found : (p : ℕ) → Shown SELECT_BEHIND_PRIORITY.now (params asked most (number p ∷ []) priority_tests) old new rows → IsPage asked m (Priority p) most rows
-  priority_found p =
-      page_found asked most (number p ∷ []) priority_tests old new m k means (Priority p) SELECT_BEHIND_PRIORITY.now select_behind_priority
-      (λ j. ap₂ ◌&&◌ (is_not asked.but j) (ap (λ b. b && true) (more_than j.priority p) ∙ and-true (nat_lt p j.priority))) rows
-
 -- a text that shows the rows of a page answers one
-pub answers_page : {S Z : Type 0} (g : Ghosts S) (asked : Asked) (most : ℕ) (old new : Store S) (result : Result (Vec Row Z) StoreFault) (sql : List ℕ)
-    (params meant : Row) (front of : Front) → of ≡ front → params ≡ meant
-    → Queries g old new result (λ rows. Shown sql params (shown_by g old) (shown_by g new) rows.items)
-    → ((m : Queue) (k : Ledger) → TablesMean (shown_by g old).now m k → (rows : List Row) → Shown sql meant (shown_by g old) (shown_by g new) rows → IsPage
-    asked m front most rows) → Recalls g old new result (λ m k rows. IsPage asked m of most rows.items)
-answers_page g asked most old new result sql params meant front of is same finds page = record {
+pub answers_page : {S Z : Type 0} (g : Ghosts S) (asked : Asked) (most : ℕ) (more : Row) (tests : List Term) {old new : Store S}
+    {result : Result (Vec Row Z) StoreFault} {sql : List ℕ} {told : Row} {of : Front} (front : Front) → SelectsPage sql tests
+    → ((j : Job) → waiting.is_further asked.t (rest asked most more tests) tests prospect_project (row_of j) ≡ (is_other asked.but j && is_near front j))
+    → of ≡ front → told ≡ params asked most more tests → Queries g old new result (λ rows. Shown sql told (shown_by g old) (shown_by g new) rows.items)
+    → Recalls g old new result (λ m k rows. IsPage asked m of most rows.items)
+answers_page g asked most more tests {old} {new} {result} {sql} front selects near is same finds = record {
   leaves = finds.leaves;
-  answers = λ m k means s. rw is (answered result _ _ (finds.found s.clean) finds.cause
-      (λ rows h. page m k (means (finds.leaves.served s)) rows.items (subst (λ p. Shown sql p (shown_by g old) (shown_by g new) rows.items) same h)));
+  answers = λ m k means s. rw is (answered result _ _ (finds.found s.clean) finds.cause (λ rows h.
+      page_found asked most more tests (shown_by g old) (shown_by g new) m k (means (finds.leaves.served s)) front sql selects near rows.items
+      (subst (λ p. Shown sql p (shown_by g old) (shown_by g new) rows.items) same h)));
 }
 
 -- ---- what one statement finds, and what comes after
 
 abbrev lex : ℕ → ℕ → ℕ → ℕ → ℕ → ℕ → Bool
 lex p t n q u k = nat_lt p q || ((p == q) && (nat_lt t u || ((t == u) && nat_lt n k)))
-
--- nothing comes after itself
-not_itself : (p t n : ℕ) → lex p t n p t n ≡ false
-not_itself p t n = grind (arith, nat_tests)
-
--- what comes after another doesn't come before it
-not_back : (p t n q u k : ℕ) → lex p t n q u k ≡ true → lex q u k p t n ≡ false
-not_back p t n q u k h = grind (arith, nat_tests)
 
 -- what comes after what comes after comes after
 through : (p t n q u k r v l : ℕ) → lex p t n q u k ≡ true → lex q u k r v l ≡ true → lex p t n r v l ≡ true
@@ -325,41 +262,29 @@ through p t n q u k r v l a b = grind (arith, nat_tests)
 same_front : (p t n q u k : ℕ) → (((q == p) && ((u == t) && nat_lt n k)) || (nat_lt p q || ((q == p) && nat_lt t u))) ≡ lex p t n q u k
 same_front p t n q u k = grind (arith, nat_tests)
 
--- after what has a later priority or time comes none of the same priority and time
-past_time : (p t q u k r v l n : ℕ) → lex q u k r v l ≡ true → (nat_lt p q || ((q == p) && nat_lt t u)) ≡ true → ((r == p) && ((v == t) && nat_lt n l)) ≡ false
-past_time p t q u k r v l n goes past = grind (arith, nat_tests)
-
--- after what has a later priority comes none of that priority
-past_priority : (p t q u k r v l : ℕ) → lex q u k r v l ≡ true → nat_lt p q ≡ true → ((r == p) && nat_lt t v) ≡ false
-past_priority p t q u k r v l goes past = grind (arith, nat_tests)
-
 -- behind what comes after nothing is near
 after : (f : Front) (a b : Job) → Goes a b → is_beyond f a ≡ true → is_near f b ≡ false
-after First a b goes past = absurd (true≢false (sym past))
-after (Number p t n) a b goes past = past_time p t a.priority a.tts a.number b.priority b.tts b.number n goes past
-after (Time p t) a b goes past = past_priority p t a.priority a.tts a.number b.priority b.tts b.number goes past
-after (Priority p) a b goes past = absurd (true≢false (sym past))
+after (Number p t n) a b goes past = grind (arith, nat_tests)
+after (Time p t) a b goes past = grind (arith, nat_tests)
+after _ a b goes past = absurd (true≢false (sym past))
 
 -- a job beyond a front isn't near it
 not_both : (f : Front) (a : Job) → is_beyond f a ≡ true → is_near f a ≡ false
-not_both First a past = absurd (true≢false (sym past))
 not_both (Number p t n) a past = let e : (nat_lt p a.priority || ((a.priority == p) && nat_lt t a.tts)) ≡ true = past in grind (arith, nat_tests)
 not_both (Time p t) a past = let e : nat_lt p a.priority ≡ true = past in grind (arith, nat_tests)
-not_both (Priority p) a past = absurd (true≢false (sym past))
+not_both _ a past = absurd (true≢false (sym past))
 
 -- what is behind the next front comes after
 next_is : (f : Front) → is_last f ≡ false → (j : Job) → is_beyond f j ≡ is_behind (next_front f) j
-next_is First last j = absurd (true≢false last)
 next_is (Number p t n) last j = or_comm (nat_lt p j.priority) ((j.priority == p) && nat_lt t j.tts)
 next_is (Time p t) last j = or_comm false (nat_lt p j.priority)
-next_is (Priority p) last j = absurd (true≢false last)
+next_is _ last j = absurd (true≢false last)
 
 -- beyond the last front is no job
 last_is : (f : Front) → is_last f ≡ true → (j : Job) → is_beyond f j ≡ false
-last_is First last j = refl
 last_is (Number p t n) last j = absurd (true≢false (sym last))
 last_is (Time p t) last j = absurd (true≢false (sym last))
-last_is (Priority p) last j = refl
+last_is _ last j = refl
 
 -- in a list in order, what is behind a front is what is near it and then what is beyond
 cut : (f : Front) (xs : List Job) → IsAscending Goes xs → filter (is_behind f) xs ≡ filter (is_near f) xs ++ filter (is_beyond f) xs
@@ -385,9 +310,11 @@ amid P (y ∷ ys) x zs all = amid P ys x zs all.1
 
 -- in a list in order, what is worse than one job is the rest behind it
 behind_it : (ys : List Job) (x : Job) (zs : List Job) → IsAscending Goes (ys ++ x ∷ zs) → filter (better x) (ys ++ x ∷ zs) ≡ zs
-behind_it [] x zs up = rw (not_itself x.priority x.tts x.number) (filter_all (better x) zs up.0)
+behind_it [] x zs up = let itself : better x x ≡ false = grind (arith, nat_tests) in rw itself (filter_all (better x) zs up.0)
 behind_it (y ∷ ys) x zs up =
-    rw (not_back y.priority y.tts y.number x.priority x.tts x.number (amid (Goes y) ys x zs up.0)) (behind_it ys x zs up.1)
+    let goes = amid (Goes y) ys x zs up.0 in
+    let back : better x y ≡ false = grind (arith, nat_tests) in
+    rw back (behind_it ys x zs up.1)
 
 -- where a list in order, behind a front, goes to a job and then on, the rest is what is behind this job
 rest_behind : (f : Front) (all ys : List Job) (x : Job) (rest : List Job) → IsAscending Goes all → filter (is_behind f) all ≡ (ys ++ x ∷ []) ++ rest → filter (is_behind (front_of (prospect (fields_of x)))) all ≡ rest
@@ -398,21 +325,12 @@ rest_behind f all ys x rest up is =
     ∙ sym (filter-filter (better x) (is_behind f) (λ b goes. still_behind f x b here goes) all)
     ∙ ap (filter (better x)) whole ∙ behind_it ys x rest (subst (IsAscending Goes) whole (ascending-filter Goes (is_behind f) all up))
   where
-    still_number : (p t n q u k r v l : ℕ) → (((q == p) && ((u == t) && nat_lt n k)) || (nat_lt p q || ((q == p) && nat_lt t u))) ≡ true → lex q u k r v l ≡ true
-        → (((r == p) && ((v == t) && nat_lt n l)) || (nat_lt p r || ((r == p) && nat_lt t v))) ≡ true
-    still_number p t n q u k r v l here goes = same_front p t n r v l ∙ through p t n q u k r v l (sym (same_front p t n q u k) ∙ here) goes
-
-    still_time : (p t q u k r v l : ℕ) → (((q == p) && nat_lt t u) || nat_lt p q) ≡ true → lex q u k r v l ≡ true → (((r == p) && nat_lt t v) || nat_lt p r) ≡ true
-    still_time p t q u k r v l here goes = grind (arith, nat_tests)
-
-    still_priority : (p q u k r v l : ℕ) → (nat_lt p q || false) ≡ true → lex q u k r v l ≡ true → (nat_lt p r || false) ≡ true
-    still_priority p q u k r v l here goes = grind (arith, nat_tests)
-
     still_behind : (f : Front) (a b : Job) → is_behind f a ≡ true → Goes a b → is_behind f b ≡ true
     still_behind First a b here goes = refl
-    still_behind (Number p t n) a b here goes = still_number p t n a.priority a.tts a.number b.priority b.tts b.number here goes
-    still_behind (Time p t) a b here goes = still_time p t a.priority a.tts a.number b.priority b.tts b.number here goes
-    still_behind (Priority p) a b here goes = still_priority p a.priority a.tts a.number b.priority b.tts b.number here goes
+    still_behind (Number p t n) a b here goes = same_front p t n b.priority b.tts b.number
+        ∙ through p t n a.priority a.tts a.number b.priority b.tts b.number (sym (same_front p t n a.priority a.tts a.number) ∙ here) goes
+    still_behind (Time p t) a b here goes = grind (arith, nat_tests)
+    still_behind (Priority p) a b here goes = grind (arith, nat_tests)
 
 -- ---- where a reading stands
 
@@ -442,7 +360,9 @@ module _ (db : Database) (m : Queue) (k : Ledger) (means : TablesMean db m k) (a
 
     -- the jobs asked for, in this reading, stand with the better before the worse
     up : IsAscending Goes h.all
-    up = subst (IsAscending Goes) (sym (one_asked db m k means asked h.all h.waiting)) (asked_in_order db m k means asked)
+    up = subst (IsAscending Goes) (sym (one_asked db m k means asked h.all h.waiting))
+        (ascending-filter Goes (is_other asked.but) (all_wait db m k means asked.t)
+        (ascending_weaker Comes Goes (λ a b e. sym (by_less a b) ∙ ap is_lt e) _ (come db m k means asked.t)))
 
     -- they are those given and those behind the front
     left : h.all ≡ given ++ filter (is_behind f) h.all
@@ -491,10 +411,9 @@ module _ (db : Database) (m : Queue) (k : Ledger) (means : TablesMean db m k) (a
         }
 
         stays : (g : Front) → is_last g ≡ true → next_front g ≡ g
-        stays First e = refl
         stays (Number p s n) e = absurd (true≢false (sym e))
         stays (Time p s) e = absurd (true≢false (sym e))
-        stays (Priority p) e = refl
+        stays _ e = refl
 
         by : (b : Bool) → is_last f ≡ b → StandsAt asked m given rows (next_front f) then
         by true e = same (next_front f) (ap (λ (g : Front). filter (is_behind g) h.all) (sym (stays f e)))
@@ -518,10 +437,6 @@ ends : {X : Type 0} (xs : List X) → (xs ≡ []) ⊎ ((ys : List X) × (x : X) 
 ends [] = inl refl
 ends (x ∷ xs) = elim (ends xs) [ inl none ↦ inr ([], x, ap (λ l. x ∷ l) none) | inr more ↦ inr (x ∷ more.0, more.1, ap (λ l. x ∷ l) more.2) ]
 
--- the place one before the length has the last element
-last_of : {X : Type 0} (xs : List X) (x : X) → slice_get (xs ++ x ∷ []) (length (xs ++ x ∷ []) - 1) ≡ Some x
-last_of xs x = slice_get_read (xs ++ x ∷ []) _ _ x refl (omega (arith, length_push xs x)) (sym (get_or_push xs x x _ (omega (arith, length_push xs x))))
-
 -- rows with no last one are none
 pub page_empty : (rows : List Row) → None ≡ slice_get rows (length rows - 1) → rows ≡ []
 page_empty [] none = refl
@@ -535,7 +450,10 @@ page_ends rows jobs row is last = elim (ends jobs) [
     it.0,
     it.1,
     it.2,
-    same_Some row (shown it.1) (last ∙ ap (λ (xs : List Row). slice_get xs (length xs - 1)) (is ∙ ap (map shown) it.2 ∙ map-append shown it.0 (it.1 ∷ [])) ∙ last_of (map shown it.0) (shown it.1)),
+    same_Some row (shown it.1) (last ∙ ap (λ (xs : List Row). slice_get xs (length xs - 1)) (is ∙ ap (map shown) it.2 ∙ map-append shown it.0 (it.1 ∷ []))
+        ∙ (let push = length_push (map shown it.0) (shown it.1) in
+        slice_get_read (map shown it.0 ++ shown it.1 ∷ []) _ _ (shown it.1) refl (omega (arith, push))
+        (sym (get_or_push (map shown it.0) (shown it.1) (shown it.1) _ (omega (arith, push)))))),
   )
 ]
 
@@ -548,10 +466,9 @@ page_lawful asked m f most all ys x lawful waits is =
 -- ---- how often there is more to be read until a page has a job
 
 abbrev pub rank : Front → ℕ
-rank First = 0
 rank (Number p t n) = 2
 rank (Time p t) = 1
-rank (Priority p) = 0
+rank _ = 0
 
 abbrev pub turns_left : List Row → Front → ℕ
 turns_left [] f = rank f + 1
@@ -579,11 +496,11 @@ pub within : (j : Job) → IsLawfulJob j → j.number ≤ last_job
 within j lawful = let up = (and_parts (leb 1 j.number) (leb j.number last_job) (within_limits_of (fields_of j) lawful.limits).number).1 in leb-true j.number last_job up
 
 -- in a list with rising numbers, each job is found by its number
-each_found : (xs : List Job) → IsAscending (Below number_of) xs → AllByRecursion (λ (j : Job). find (λ (k : Job). k.number == j.number) xs ≡ Some j) xs
+each_found : (xs : List Job) → IsAscending Below xs → AllByRecursion (λ (j : Job). find (λ (k : Job). k.number == j.number) xs ≡ Some j) xs
 each_found [] up = tt
 each_found (x ∷ xs) up = (
   (let e : (x.number == x.number) ≡ true = grind (arith, nat_tests) in rw e),
-  all_both (Below number_of x) (λ (j : Job). find (λ (k : Job). k.number == j.number) xs ≡ Some j) (λ (j : Job). find (λ (k : Job). k.number == j.number) (x ∷ xs) ≡ Some j)
+  all_both (Below x) (λ (j : Job). find (λ (k : Job). k.number == j.number) xs ≡ Some j) (λ (j : Job). find (λ (k : Job). k.number == j.number) (x ∷ xs) ≡ Some j)
       (λ j low found. let e : (x.number == j.number) ≡ false = grind (arith, nat_tests) in rw (e, found)) xs up.0 (each_found xs up.1),
 )
 
@@ -604,3 +521,28 @@ module _ (db : Database) (m : Queue) (k : Ledger) (means : TablesMean db m k) (a
   given_there =
       of_all (λ (j : Job). job_numbered j.number m ≡ Some j)
       (All-from_recursion (λ (j : Job). job_numbered j.number m ≡ Some j) m.jobs (each_found m.jobs (rises db m k means asked.t)))
+
+-- ---- what a refusal leaves
+
+-- one that is passed on says nothing of an answer, and is for want of the store alone where that was
+module _ {S Z A : Type 0} (g : Ghosts S) {old new : Candidates S (IntoIter Row Z) Asked} {fault : StoreFault}
+    (same : new.store.ghost_name ≡ old.store.ghost_name) (asked : new.asked ≡ old.asked) (leaves : Looks g old.store.now new.store.now)
+    (why : (m : Queue) (k : Ledger) (given : List Job) → Means (shown_by g old.store.now) m k → Serves (shown_by g new.store.now)
+    → StandsAt old.asked m given (into_iter_items old.page) old.front old.most → fault ≡ Unavailable) where
+  pub advances_err : {Finds : Queue → List Job → A → Type 0} (result : Result A StoreFault) → IsErrAnd result (λ e. e ≡ fault)
+      → Advances g old new result Finds
+  advances_err (Ok a) told = absurd told
+  advances_err (Err e) told = record {
+    same_reference = same;
+    leaves = leaves;
+    opens = tt;
+    asked = asked;
+    found = λ m k given means s stands. told ∙ why m k given means s stands;
+  }
+
+  pub reaches_err : {IsEnd : A → Type 0} {Finds : Queue → List Job → A → Type 0} (result : Result A StoreFault) → IsErrAnd result (λ e. e ≡ fault)
+      → Reaches g old new result IsEnd Finds
+  reaches_err (Ok a) told = absurd told
+  reaches_err {Finds = Finds} (Err e) told =
+      let advances = advances_err {Finds = Finds} (Err e) told in
+      record { same_reference = same; leaves = leaves; opens = tt; none = tt; asked = asked; found = advances.found }

@@ -1,6 +1,6 @@
 -- What BEGIN, COMMIT and ROLLBACK do, whatever the schema is.
-use Rattle.std.proofs.Common.{◌≡◌, ◌⊎◌, inl, inr, ℕ, List, [], length, nat_le, true, false, None, Ok, Err, Result, IsTrue, refl, sym, ap, subst}
-use Rattle.std.proofs.lemmas.Bool.{both_ways, leb-true}
+use Rattle.std.proofs.Common.{◌≡◌, ◌⊎◌, inl, inr, ℕ, List, [], length, nat_le, true, false, None, Ok, Err, Result, IsTrue, refl, sym, ap, subst, arith}
+use Rattle.std.proofs.lemmas.Bool.{leb-true}
 use Rattle.sqlite_schema.specs.declared.schema.Schema.{Schema}
 use Rattle.sqlite_resolve.specs.declared.compiled.Compiled.{Compiled}
 use Rattle.sqlite_resolve.specs.declared.error.CompileError.{CompileError}
@@ -58,10 +58,6 @@ module _ (old new : State) (sql : List ℕ) (command : Command) (is : IsControl 
     | inr (inr timed) ↦ timed.0 (known h.0 h.1).3
   ]
 
-  -- it shows no rows
-  hides : (c : Compiled) → IsControl sql command (Ok c) → shows_rows false c ≡ false
-  hides c h = rw (h.0, h.1, bare.0, bare.1) refl
-
   -- it changes nothing
   stays : (c : Compiled) → IsControl sql command (Ok c) → MayChange c → ⊥
   stays c h (inl write) = bare.2 (subst IsWrite h.0 write)
@@ -74,7 +70,8 @@ module _ (old new : State) (sql : List ℕ) (command : Command) (is : IsControl 
   fails e placed (inl (inr failed)) = failed.3
   fails e placed (inr ran) =
       let it = known ran.0 ran.1.is in
-      elim (rw (hides ran.0 it) at ran.2) [
+      let hides : shows_rows false ran.0 ≡ false = rw (it.0, it.1, bare.0, bare.1) refl in
+      elim (rw hides at ran.2) [
         | inl (inl misplaced, same) ↦ absurd (placed (subst (λ k. IsMisplaced old k e) it.0 misplaced))
         | inl (inr (changes, does), same) ↦ absurd (stays ran.0 it changes)
         | inr failed ↦ failed.3
@@ -83,13 +80,7 @@ module _ (old new : State) (sql : List ℕ) (command : Command) (is : IsControl 
 -- inside a transaction, what ends it isn't misplaced
 not_misplaced : (s : State) (command : Command) → (command ≡ Commit) ⊎ (command ≡ Rollback) → IsTrue s.in_transaction → (e : Error) → IsMisplaced s command e
     → ⊥
-not_misplaced s command ends inside e (inl (same, inl begins)) =
-    elim ends [ inl commit ↦ absurd (let no = begins.0 in cc) | inr back ↦ absurd (let no = begins.0 in cc) ]
-not_misplaced s command ends inside e (inl (same, inr outside)) = both_ways _ outside.1 inside
-not_misplaced s command ends inside e (inr (same, name, inl release, none)) =
-    elim ends [ inl commit ↦ absurd (let no = release in cc) | inr back ↦ absurd (let no = release in cc) ]
-not_misplaced s command ends inside e (inr (same, name, inr to, none)) =
-    elim ends [ inl commit ↦ absurd (let no = to in cc) | inr back ↦ absurd (let no = to in cc) ]
+not_misplaced s command ends inside e misplaced = grind arith
 
 module _ (old new : State) where
   -- a begin that is done was made outside a transaction, and leaves one under way over the same rows

@@ -1,17 +1,12 @@
 -- How many grants are open to a number, after a change of the queue.
-use Rattle.std.proofs.Common.{◌≡◌, ◌⊎◌, inl, inr, ℕ, pos, ◌+◌, ◌-◌, ◌<◌, ◌≤◌, ◌^◌, List, [], ◌∷◌, map, filter, length, cond, if◌then◌else◌, Bool, true, false, ◌&&◌, Option, Some, None, refl, sym, ap, ap₂, subst, ◌∙◌, arith}
+use Rattle.std.proofs.Common.{◌≡◌, ◌⊎◌, inl, inr, ℕ, pos, ◌+◌, ◌-◌, ◌<◌, ◌≤◌, ◌^◌, List, [], ◌∷◌, map, filter, length, cond, if◌then◌else◌, Bool, true, false, ◌&&◌, Option, Some, None, refl, sym, ap, ap₂, subst, ◌∙◌, arith, find, ◌==◌, nat_lt, option_map, int_cmp, bytes_eq, Less}
 use Rattle.fax_store.specs.Grant.{with_count}
 use Rattle.std.proofs.lemmas.Option.{same_Some}
-use Rattle.std.specs.Prelude.{find, ◌==◌, nat_lt}
-use Rattle.std.specs.Option.{option_map}
-use Rattle.std.specs.Ordering.{int_cmp}
 use Rattle.std.specs.Cmp as cmp
-use Rattle.std.specs.Str.{bytes_eq}
 use Rattle.std.proofs.lemmas.Slice.Eq.{bytes_eq-Decides}
-use Rattle.std.specs.declared.cmp.Ordering.TheVariants.{Less}
 use Rattle.std.proofs.lemmas.Bool.{cases_Bool, eqb-true, eq-eqb, both_ways, cond_both, false_from_ne_true, true≢false}
 use Rattle.std.proofs.lemmas.Bool.Decides.{nat_tests}
-use Rattle.std.proofs.lemmas.List.Elements.{recursion_from_All}
+use Rattle.std.proofs.lemmas.List.Elements.{All-from_recursion, recursion_from_All}
 use Rattle.sqlite.specs.Effect.{Database}
 use Rattle.sqlite.specs.Tree.{rowid, IsTable}
 use Rattle.sqlite_rules.specs.Lists.{Has}
@@ -27,7 +22,8 @@ use Rattle.fax_core.specs.State.{calls_to, is_of_number}
 use Rattle.fax_core.specs.declared.grants.Grant.{Grant}
 use Rattle.fax_core.proofs.PlaceLemmas.{find_map}
 use Rattle.fax_tables.specs.Place.{placed}
-use Rattle.fax_tables.specs.Row.{grant_row, hold_columns}
+use Rattle.std.proofs.lemmas.List.Folds.{map_fixed}
+use Rattle.fax_tables.specs.Row.{number, grant_row, hold_columns}
 use Rattle.fax_tables.specs.Tables.{HasJob, HaveJobs, IsLawfulGrant, TablesMean}
 use Rattle.fax_schema.proofs.EditLemmas.{has_mapped}
 use Rattle.fax_tables.proofs.KeyLemmas.{apart}
@@ -174,19 +170,14 @@ has_placed g h (x ∷ xs) = cond_both (nat_lt x.number g.number) (x ∷ placed (
     (λ gs. Has gs h → (h ≡ g) ⊎ Has (x ∷ xs) h)
     (λ _ has. elim has [ inl is ↦ inr (inl is) | inr more ↦ elim (has_placed g h xs more) [ inl is ↦ inl is | inr there ↦ inr (inr there) ] ]) (λ _ has. has)
 
+-- what changes no element changes no list
+pub unmoved : {X : Type 0} (f : X → X) (xs : List X) → ((x : X) → Has xs x → f x ≡ x) → map f xs ≡ xs
+unmoved f xs same = map_fixed f xs (All-from_recursion _ xs (all_from _ xs same))
+
 -- a grant of a number that is open no more
 module _ (n : ℕ) where
   abbrev pub shut : Grant → Grant
   shut x = if x.number == n then record x { is_open = false } else x
-
-  -- where none has the number, none is shut
-  none_shut : (gs : List Grant) → ((x : Grant) → Has gs x → (x.number == n) ≡ false) → map shut gs ≡ gs
-  none_shut [] off = refl
-  none_shut (x ∷ xs) off = ap₂ ◌∷◌ (ap (λ b. if b then record x { is_open = false } else x) (off x (inl refl))) (none_shut xs (λ y has. off y (inr has)))
-
-  -- one that is open still is as it was
-  still_open : (x : Grant) → (shut x).is_open ≡ true → shut x ≡ x
-  still_open x = cond_both (x.number == n) (record x { is_open = false }) x (λ y. y.is_open ≡ true → y ≡ x) (λ _ e. absurd (true≢false (sym e))) (λ _ e. refl)
 
   -- shutting an open grant takes it off those that are open
   pub closed_count : (of : Grant → Bool) (g : Grant) (gs : List Grant) → IsTable (map grant_row gs) → find (λ (x : Grant). x.number == n) gs ≡ Some g → g.is_open ≡ true → open_to of (map shut gs) + one (of g) ≡ open_to of gs
@@ -195,7 +186,7 @@ module _ (n : ℕ) where
     | inl here ↦
         (let same : h ≡ g = same_Some h g (rw here at found) in
         let more : open_to of (h ∷ hs) ≡ one (of g) + open_to of hs = rw same (open_more of g hs ∙ ap (λ b. one (b && of g) + open_to of hs) on) in
-        rw (here, none_shut hs (λ y has. later y has here)) (omega (arith, more)))
+        rw (here, unmoved shut hs (λ y has. rw (later y has here) refl)) (omega (arith, more)))
     | inr off ↦ rw off (omega (arith, open_more of h (map shut hs), open_more of h hs, closed_count of g hs rise.1 (rw off at found) on))
   ]
     where
@@ -210,7 +201,8 @@ module _ (n : ℕ) where
   jobs_shut m have g has =
       let opened = has_filtered (λ (x : Grant). x.is_open) (map shut m.grants) g has in
       let it = has_mapped shut m.grants g opened.0 in
-      let same : g ≡ it.0 = it.2 ∙ still_open it.0 (sym (ap (λ (x : Grant). x.is_open) it.2) ∙ opened.1) in
+      let same : g ≡ it.0 = it.2 ∙ cond_both (it.0.number == n) (record it.0 { is_open = false }) it.0 (λ y. y.is_open ≡ true → y ≡ it.0)
+      (λ _ e. absurd (true≢false (sym e))) (λ _ e. refl) (sym (ap (λ (x : Grant). x.is_open) it.2) ∙ opened.1) in
       let was = have it.0 (has_kept (λ (x : Grant). x.is_open) m.grants it.0 it.1 (sym (ap (λ (x : Grant). x.is_open) same) ∙ opened.1)) in
       (was.0, ap (λ (x : Grant). job_numbered x.job m) same ∙ was.1)
 
@@ -220,11 +212,9 @@ held_job m have n g found on = have g (has_kept (λ (x : Grant). x.is_open) m.gr
 
 -- ---- how many there may be
 
--- by rowid, one grant stands before another only where its number is less
-above : (g h : Grant) → value_cmp (rowid (grant_row g)) (rowid (grant_row h)) ≡ Less → g.number < h.number
-above g h less =
-    let e : int_cmp (pos g.number) (pos h.number) ≡ Less = sym (value_cmp-Int (pos g.number) (pos h.number)) ∙ less in
-    grind (arith, nat_tests)
+-- by rowid, one record stands before another only where its number is less
+pub lower : (n k : ℕ) → value_cmp (number n) (number k) ≡ Less → n < k
+lower n k less = let e : int_cmp (pos n) (pos k) ≡ Less = sym (value_cmp-Int (pos n) (pos k)) ∙ less in grind (arith, nat_tests)
 
 -- grants with rising numbers up to a last one are no more than that
 pub few : (last low : ℕ) (gs : List Grant) → IsTable (map grant_row gs) → ((x : Grant) → Has gs x → (low ≤ x.number) × (x.number ≤ last)) → low ≤ last + 1 → length gs + low ≤ last + 1
@@ -233,7 +223,8 @@ few last low (g ∷ gs) rise within base =
     let first = within g (inl refl) in
     let rest = few last (low + 1) gs rise.1
     (λ x has.
-    let more = above g x (all_has (λ r. value_cmp (rowid (grant_row g)) (rowid r) ≡ Less) (map grant_row gs) (grant_row x) rise.0 (mapped_has grant_row gs x has)) in
+    let more = lower g.number x.number
+    (all_has (λ r. value_cmp (rowid (grant_row g)) (rowid r) ≡ Less) (map grant_row gs) (grant_row x) rise.0 (mapped_has grant_row gs x has)) in
     (omega (arith, more, first.0), (within x (inr has)).1))
     (omega (arith, first.0, first.1)) in
     omega (arith, rest)

@@ -1,8 +1,7 @@
 -- What the texts on floors, and on the replies that a client gives up, leave; and such replies, some at a time.
-use Rattle.std.proofs.Common.{◌≡◌, ◌≤◌, ◌<◌, ◌^◌, ℕ, zero, suc, List, [], ◌∷◌, map, filter, drop, false, not, ◌&&◌, Option, MatchOption, refl, sym, ap, ap₂, subst, ◌∙◌, arith, Bool, true, Ok, Err, Result, MatchResult}
+use Rattle.std.proofs.Common.{◌≡◌, ◌≤◌, ◌<◌, ◌^◌, ℕ, List, [], ◌∷◌, map, filter, drop, false, not, ◌&&◌, Option, MatchOption, refl, sym, ap, ap₂, subst, ◌∙◌, arith, Bool, true, Ok, Err, Result, is_err, bytes_eq, IfErr, IsErrAnd, nat_le}
 use Rattle.sqlite_trees.proofs.ListLemmas.{filter-filter}
 use Rattle.std.proofs.Math.Bool.{and-true}
-use Rattle.std.specs.Str.{bytes_eq}
 use Rattle.std.proofs.lemmas.Bool.{cond_both}
 use Rattle.std.proofs.lemmas.Slice.Eq.{bytes_eq-Decides}
 use Rattle.sqlite.specs.Cast.{cast_row}
@@ -30,18 +29,16 @@ use Rattle.fax_schema.proofs.WriteLemmas.{KeepsOthers, unreferred, inserts}
 use Rattle.fax_tables.specs.Row.{number, entry_columns, floor_columns}
 use Rattle.fax_tables.specs.Tables.{AreCounted, AreLawfulFloors, TablesMean}
 use Rattle.fax_tables.proofs.TablesLemmas.{AreColumns, AreFloors, by_rowid_put, calls_of, floors_changed, means_of, parts_of, replies_changed}
-use Rattle.fax_store.specs.Store.{FindsRow, HasRun, Serves}
+use Rattle.fax_store.specs.Store.{FindsRow, HasRun}
 use Rattle.fax_store.proofs.CallLemmas.{beside, counted_found, is_asked, left_without, params}
-use Rattle.std.specs.Prelude.{IfErr, IsErrAnd, nat_le, ⊤}
 use Rattle.std.proofs.lemmas.Bool.Decides.{nat_tests}
 use Rattle.sqlite_trees.specs.declared.store.Store.{Ghosts}
-use Rattle.fax_store.specs.Calls.{Finds, Runs, shown}
+use Rattle.fax_store.specs.Calls.{Finds, Writes, shown}
 use Rattle.fax_store.specs.Floors.{Thins}
-use Rattle.fax_store.specs.Work.{IsUnderWay, Steps, Works}
+use Rattle.fax_store.specs.Work.{IsUnderWay, Steps}
 use Rattle.fax_store.specs.declared.store.Store.{Store}
-use Rattle.fax_store.proofs.FrameLemmas.{runs_of, runs_then}
-use Rattle.fax_store.proofs.WorkLemmas.{goes_on}
-use Rattle.fax_tables.specs.Fault.{OrUnavailable}
+use Rattle.fax_store.proofs.FrameLemmas.{runs_err, runs_of, runs_then}
+use Rattle.fax_store.proofs.WorkLemmas.{keeps_by}
 use Rattle.fax_tables.specs.declared.fault.StoreFault.{StoreFault}
 use Rattle.fax_tables.specs.declared.fault.StoreFault.TheVariants.{Unavailable}
 
@@ -52,13 +49,11 @@ pub floor_found : (client : List ℕ) (old new : State) (m : Queue) (k : Ledger)
 floor_found client old new m k means = counted_found client floors_tree SELECT_FLOOR.now _ select_floor (λ trees. refl) old new k.floor means.schema
     means.floors
 
-low : (n : ℕ) → (1 ≤ n → n < 10 ^ 18) → n < 10 ^ 18
-low zero some = omega arith
-low (suc n) some = some (omega arith)
-
 -- a floor is below one above the greatest number
 pub floor_low : (client : List ℕ) (floor : List ℕ → ℕ) → AreLawfulFloors floor → floor client < 10 ^ 18
-floor_low client floor lawful = low (floor client) (λ some. (lawful client some).1)
+floor_low client floor lawful =
+    let below : 1 ≤ floor client → floor client < 10 ^ 18 = λ some. (lawful client some).1 in
+    grind (arith, below)
 
 -- ---- replies that are given up
 
@@ -151,46 +146,40 @@ without_lower client low high k under =
 
 -- ---- calls
 
-module _ {S : Type 0} (g : Ghosts S) (client : List ℕ) (floor : ℕ) where
+module _ {S : Type 0} (g : Ghosts S) {client : List ℕ} {floor : ℕ} where
   -- nothing is done
-  pub thins_not : (s : Store S) → {A : Type 0} (a : A) → Thins g client floor s s (Ok a)
-  thins_not s a = record {
+  pub thins_not : {s : Store S} {A : Type 0} (a : A) → Thins g client floor s s (Ok a)
+  thins_not a = record {
     leaves = record { served = λ serves. serves; clean = λ clean. clean; holds = λ db over serves. over serves; crash = λ active. (active, λ found may. may) };
     written = λ m₀ m k₀ k works serves. (k, refl, works serves);
   }
 
   -- a reading takes none away
-  pub thins_none : (old new : Store S) {A : Type 0} (result : Result A StoreFault) → Finds g old new result → IfErr result (λ fault. fault ≡ Unavailable) → Thins g client floor old new result
-  thins_none old new {A} result finds cause = record {
+  pub thins_none : {old new : Store S} {A : Type 0} (result : Result A StoreFault) → Finds g old new result → IfErr result (λ fault. fault ≡ Unavailable)
+      → Thins g client floor old new result
+  thins_none {old} {new} result finds cause = record {
     leaves = runs_of g finds;
-    written = λ m₀ m k₀ k works s. (
-      k,
-      refl,
-      told m₀ m k₀ k result (goes_on (shown g old) (shown g new) finds.served result finds.reads (λ m k a. ⊤) (λ m k means serves. any result cause) m₀ m k₀ k works s),
-    );
+    written = λ m₀ m k₀ k works s. let after = keeps_by (shown g old) (shown g new) finds.served result finds.reads m₀ m k₀ k works s in
+        (k, refl, kept m₀ m k₀ k result cause after);
   }
     where
-      any : (r : Result A StoreFault) → IfErr r (λ fault. fault ≡ Unavailable) → OrUnavailable r (λ a. ⊤)
-      any (Ok a) h = tt
-      any (Err e) h = h
-
-      told : (m₀ m : Queue) (k₀ k : Ledger) (r : Result A StoreFault) → MatchResult r (λ a. ⊤ × IsUnderWay (shown g new) false m₀ k₀ m k) (λ fault. (fault ≡ Unavailable) × TablesMean (shown g new).committed m₀ k₀)
-          → Steps (shown g new) r m₀ k₀ m k
-      told m₀ m k₀ k (Ok a) h = h.1
-      told m₀ m k₀ k (Err e) h = h
+      kept : (m₀ m : Queue) (k₀ k : Ledger) {A : Type 0} (r : Result A StoreFault) → IfErr r (λ fault. fault ≡ Unavailable)
+          → IsUnderWay (shown g new) (is_err r) m₀ k₀ m k → Steps (shown g new) r m₀ k₀ m k
+      kept m₀ m k₀ k (Ok a) cause after = after
+      kept m₀ m k₀ k (Err e) cause after = (cause, after.began)
 
   -- those through a lower number are some of them
-  pub thins_lower : (old new : Store S) {A : Type 0} (result : Result A StoreFault) (last : ℕ) → last ≤ floor → Runs g old new result
-      → ((m₀ m : Queue) (k₀ k : Ledger) → Works (shown g old) false m₀ k₀ m k → Serves (shown g new) → Steps (shown g new) result m₀ k₀ m (without_replies client last k))
-      → Thins g client floor old new result
-  thins_lower old new result last under runs written = record {
-    leaves = runs;
-    written = λ m₀ m k₀ k works s. (without_replies client last k, without_lower client last floor k under, written m₀ m k₀ k works s);
+  pub thins_lower : {old new : Store S} {A : Type 0} {result : Result A StoreFault} (last : ℕ) → last ≤ floor
+      → Writes g old new result (λ m. m) (without_replies client last) → Thins g client floor old new result
+  thins_lower last under writes = record {
+    leaves = writes.leaves;
+    written = λ m₀ m k₀ k works s. (without_replies client last k, without_lower client last floor k under, writes.written m₀ m k₀ k works s);
   }
 
   -- so does what comes behind it
-  pub thins_then : (old mid new : Store S) {A B : Type 0} (a : A) (result : Result B StoreFault) → Thins g client floor old mid (Ok a) → Thins g client floor mid new result → Thins g client floor old new result
-  thins_then old mid new a result first next = record {
+  pub thins_then : {old mid new : Store S} {A B : Type 0} {a : A} {result : Result B StoreFault} → Thins g client floor old mid (Ok a)
+      → Thins g client floor mid new result → Thins g client floor old new result
+  thins_then first next = record {
     leaves = runs_then g first.leaves next.leaves;
     written = λ m₀ m k₀ k works s.
         let one = first.written m₀ m k₀ k works (next.leaves.served s) in
@@ -199,15 +188,16 @@ module _ {S : Type 0} (g : Ghosts S) (client : List ℕ) (floor : ℕ) where
   }
 
   -- an answer may say something else, and a refusal is handed on
-  pub thins_ok : (old new : Store S) {A B : Type 0} (a : A) (b : B) → Thins g client floor old new (Ok a) → Thins g client floor old new (Ok b)
-  thins_ok old new a b thins = record {
+  pub thins_ok : {old new : Store S} {A B : Type 0} {a : A} (b : B) → Thins g client floor old new (Ok a) → Thins g client floor old new (Ok b)
+  thins_ok b thins = record {
     leaves = record { served = thins.leaves.served; clean = thins.leaves.clean; holds = thins.leaves.holds; crash = thins.leaves.crash };
     written = thins.written;
   }
 
-  pub thins_err : (old new : Store S) {A B : Type 0} (e : StoreFault) (result : Result B StoreFault) → IsErrAnd result (λ f. f ≡ e) → Thins g client floor {A = A} old new (Err e) → Thins g client floor old new result
-  thins_err old new e (Ok b) is thins = absurd is
-  thins_err old new e (Err f) is thins = record {
-    leaves = record { served = thins.leaves.served; clean = thins.leaves.clean; holds = thins.leaves.holds; crash = thins.leaves.crash };
+  pub thins_err : {old new : Store S} {A B : Type 0} {e : StoreFault} (result : Result B StoreFault) → IsErrAnd result (λ f. f ≡ e)
+      → Thins g client floor {A = A} old new (Err e) → Thins g client floor old new result
+  thins_err (Ok b) is thins = absurd is
+  thins_err (Err f) is thins = record {
+    leaves = runs_err g (Err f) is thins.leaves;
     written = λ m₀ m k₀ k works s. let h = thins.written m₀ m k₀ k works s in (h.0, h.1, (is ∙ h.2.0, h.2.1));
   }

@@ -1,6 +1,5 @@
 -- What a look-up tells of the rows, whatever they say: a row is found and read, or none is.
-use Rattle.std.proofs.Common.{◌≡◌, ℕ, List, [], ◌∷◌, map, filter, true, false, ◌&&◌, Some, None, length, suc, take, sym, ap, subst, ◌∙◌, Ok, Err, Option, Result, IfOk, IfSome, IsErrAnd, refl, drop}
-use Rattle.std.specs.List.Sorted.{IsPermutation}
+use Rattle.std.proofs.Common.{◌≡◌, ℕ, List, [], ◌∷◌, map, filter, true, false, ◌&&◌, Some, None, length, suc, take, sym, ap, subst, ◌∙◌, Ok, Err, Option, Result, IfOk, IfSome, IsErrAnd, refl, drop, IsPermutation, option_map}
 use Rattle.std.proofs.lemmas.Bool.{and_parts, both_ways}
 use Rattle.sqlite.specs.Effect.{Database}
 use Rattle.sqlite.specs.Order.{Row, column}
@@ -9,6 +8,9 @@ use Rattle.sqlite.specs.State.{State, Shown, HasCleanDisk}
 use Rattle.sqlite.specs.declared.types.Value.{Value}
 use Rattle.sqlite.proofs.Callers.{reads_as}
 use Rattle.sqlite_rules.specs.Lists.{Has}
+use Rattle.sqlite_schema.specs.Rules.{agree}
+use Rattle.sqlite_value.specs.Keys.{first_key, plain}
+use Rattle.std.proofs.Math.Bool.{and-true}
 use Rattle.sqlite_sql.specs.Term.{Term}
 use Rattle.sqlite_trees.specs.Tree.{Trees}
 use Rattle.fax_schema.specs.Schema.{our_tables}
@@ -19,7 +21,6 @@ use Rattle.fax_schema.proofs.StatementForms.{Selects}
 use Rattle.fax_store.specs.Store.{FindsRow, HasRow}
 use Rattle.fax_tables.specs.Row.{HasValues, number}
 use Rattle.fax_tables.proofs.RowLemmas.{first_from}
-use Rattle.std.specs.Option.{option_map}
 use Rattle.sqlite_trees.specs.declared.store.Store.{Ghosts}
 use Rattle.fax_core.specs.Ledger.{Ledger}
 use Rattle.fax_core.specs.Queue.{Queue}
@@ -29,12 +30,17 @@ use Rattle.fax_tables.specs.Tables.{TablesMean}
 use Rattle.fax_tables.specs.declared.fault.StoreFault.{StoreFault}
 use Rattle.fax_tables.specs.declared.fault.StoreFault.TheVariants.{Unavailable}
 use Rattle.fax_tables.proofs.KeyLemmas.{is_none, is_there}
-use Rattle.fax_store.proofs.FrameLemmas.{finds_as}
+use Rattle.fax_store.proofs.FrameLemmas.{finds_as, queries_with}
 
 -- a row is its rowid and the columns behind it
 pub with_id : (r : Row) (v : Value) (columns : Row) → drop 1 r ≡ v ∷ columns → r ≡ column r 0 ∷ v ∷ columns
 with_id [] v columns is = absurd cc
 with_id (id ∷ rest) v columns is = ap (λ r. id ∷ r) is
+
+-- two rows agree in one column where its values are equal
+pub agree_at : (at : ℕ) (r s : Row) → agree plain (at ∷ []) r (at ∷ []) s ≡ are_equal (column r at) (column s at)
+unfolding first_key
+agree_at at r s = and-true (are_equal (column r at) (column s at))
 
 module _ (sql : List ℕ) (tree : ℕ) (tests project : List Term) (names : List (List ℕ)) (selects : Selects sql tree tests project names) (plain : (trees : Trees) → overlay trees [] tree ≡ trees tree)
     (params : Row) (old new : State) (db : Database) (ours : db.schema ≡ our_tables) (now : old.now ≡ db) where
@@ -89,29 +95,30 @@ as_it_is None = refl
 as_it_is (Some a) = refl
 
 module _ {S : Type 0} (g : Ghosts S) where
-  -- a query, with its parameters as they are meant
-  pub queries_with : (old new : Store S) (result : Result (Option Row) StoreFault) (sql : List ℕ) (params meant : Row) → params ≡ meant
-      → Queries g old new result (FindsRow sql params (shown g old) (shown g new)) → Queries g old new result (FindsRow sql meant (shown g old) (shown g new))
-  queries_with old new result sql params meant same = subst (λ p. Queries g old new result (FindsRow sql p (shown g old) (shown g new))) same
-
   -- The text finds the row of one record of the queue, which is shown so.
   pub record Keys {X : Type 0} (old new : Store S) (sql : List ℕ) (params : Row) (one : Queue → Option X) (shows : X → Row) (IsLawful : X → Type 0) (HasOne : Database → Type 0) : Type 0 where
     pub found : (m : Queue) (k : Ledger) → TablesMean (shown g old).now m k → (row : Option Row) → FindsRow sql params (shown g old) (shown g new) row → row ≡ option_map shows (one m)
     pub lawful : (m : Queue) (k : Ledger) → TablesMean (shown g old).now m k → (x : X) → one m ≡ Some x → IsLawful x
     pub none : (db : Database) → db.schema ≡ our_tables → (shown g old).now ≡ db → FindsRow sql params (shown g old) (shown g new) None → ¬ HasOne db
 
-  module _ {X A : Type 0} (old new : Store S) (sql : List ℕ) (params : Row) (one : Queue → Option X) (shows : X → Row) (IsLawful : X → Type 0) (HasOne : Database → Type 0) (Stands : Database → A → Type 0)
-      (keys : Keys old new sql params one shows IsLawful HasOne) (reads : X → A) (read_one : Queue → Option A) (is_read : (m : Queue) → read_one m ≡ option_map reads (one m)) (found : Option Row) (finds : Queries g old new (Ok found) (FindsRow sql params (shown g old) (shown g new))) where
+  module _ {X A : Type 0} {old new : Store S} {sql : List ℕ} {params : Row} {one : Queue → Option X} {shows : X → Row} {IsLawful : X → Type 0}
+      {HasOne : Database → Type 0} (keys : Keys old new sql params one shows IsLawful HasOne) (reads : X → A) {read_one : Queue → Option A}
+      (is_read : (m : Queue) → read_one m ≡ option_map reads (one m)) {found : Option Row} {told : Row} (same : told ≡ params)
+      (queried : Queries g old new (Ok found) (FindsRow sql told (shown g old) (shown g new))) where
+    finds : Queries g old new (Ok found) (FindsRow sql params (shown g old) (shown g new))
+    finds = queries_with g old new (Ok found) sql told params same queried
+
     -- none is there
-    pub looks_none : found ≡ None → LooksUp g old new (Ok None) read_one HasOne Stands
+    pub looks_none : {Stands : Database → A → Type 0} → found ≡ None → LooksUp g old new (Ok None) read_one HasOne Stands
     looks_none is = record {
       leaves = finds_as g old new found (Ok None) finds.leaves;
-      answers = λ m k means s. sym (is_read m ∙ ap (option_map reads) (is_none shows (one m) (sym is ∙ keys.found m k (means (finds.leaves.served s)) found (finds.found s.clean))));
+      answers = λ m k means s. let none = keys.found m k (means (finds.leaves.served s)) found (finds.found s.clean) in
+          sym (is_read m ∙ ap (option_map reads) (is_none shows (one m) (sym is ∙ none)));
       missing = λ db ours now clean. keys.none db ours now (subst (FindsRow sql params (shown g old) (shown g new)) is (finds.found clean));
       stands = λ db ours now clean. tt;
     }
 
-    module _ (row : Row) (is : found ≡ Some row) where
+    module _ {row : Row} (is : found ≡ Some row) where
       -- the record whose row is found
       there : (m : Queue) (k : Ledger) → TablesMean (shown g old).now m k → HasCleanDisk (shown g new) → (x : X) × (one m ≡ Some x) × (row ≡ shows x) × IsLawful x
       there m k means clean =
@@ -119,21 +126,22 @@ module _ {S : Type 0} (g : Ghosts S) where
           (it.0, it.1, it.2, keys.lawful m k means it.0 it.1)
 
       -- it is read
-      pub looks_up : (a : A) → ((x : X) → row ≡ shows x → IsLawful x → a ≡ reads x)
+      pub looks_up : {Stands : Database → A → Type 0} {a : A} → ((x : X) → row ≡ shows x → IsLawful x → a ≡ reads x)
           → ((db : Database) → db.schema ≡ our_tables → (shown g old).now ≡ db → FindsRow sql params (shown g old) (shown g new) (Some row) → Stands db a)
           → LooksUp g old new (Ok (Some a)) read_one HasOne Stands
-      looks_up a read stands = record {
+      looks_up {Stands} {a} read stands = record {
         leaves = finds_as g old new found (Ok (Some a)) finds.leaves;
-        answers = λ m k means s. let it = there m k (means (finds.leaves.served s)) s.clean in ap Some (read it.0 it.2 it.3) ∙ sym (is_read m ∙ ap (option_map reads) it.1);
+        answers = λ m k means s. let it = there m k (means (finds.leaves.served s)) s.clean in
+            ap Some (read it.0 it.2 it.3) ∙ sym (is_read m ∙ ap (option_map reads) it.1);
         missing = λ db ours now clean. tt;
         stands = λ db ours now clean. stands db ours now (subst (FindsRow sql params (shown g old) (shown g new)) is (finds.found clean));
       }
 
       -- it isn't read, for want of memory alone where it is lawful
-      pub looks_err : (result : Result (Option A) StoreFault) (fault : StoreFault) → IsErrAnd result (λ e. e ≡ fault) → ((x : X) → row ≡ shows x → IsLawful x → fault ≡ Unavailable)
-          → LooksUp g old new result read_one HasOne Stands
-      looks_err (Ok a) fault told why = absurd told
-      looks_err (Err e) fault told why = record {
+      pub looks_err : {Stands : Database → A → Type 0} {fault : StoreFault} (result : Result (Option A) StoreFault) → IsErrAnd result (λ e. e ≡ fault)
+          → ((x : X) → row ≡ shows x → IsLawful x → fault ≡ Unavailable) → LooksUp g old new result read_one HasOne Stands
+      looks_err (Ok a) told why = absurd told
+      looks_err (Err e) told why = record {
         leaves = finds_as g old new found (Err e) finds.leaves;
         answers = λ m k means s. let it = there m k (means (finds.leaves.served s)) s.clean in told ∙ why it.0 it.2 it.3;
         missing = λ db ours now clean. tt;
@@ -141,9 +149,10 @@ module _ {S : Type 0} (g : Ghosts S) where
       }
 
   -- what is looked up is lawful by itself
-  pub looks_lawful : {A : Type 0} (old new : Store S) (result : Result (Option A) StoreFault) (one : Queue → Option A) (HasOne : Database → Type 0) (Stands : Database → A → Type 0) (Lawful : A → Type 0)
-      → LooksUp g old new result one HasOne Stands → IfOk result (λ found. IfSome found Lawful) → LooksUpLawful g old new result one HasOne Stands Lawful
-  looks_lawful old new result one HasOne Stands Lawful looks lawful = record {
+  pub looks_lawful : {A : Type 0} {old new : Store S} {result : Result (Option A) StoreFault} {one : Queue → Option A} {HasOne : Database → Type 0}
+      {Stands : Database → A → Type 0} {Lawful : A → Type 0} → LooksUp g old new result one HasOne Stands → IfOk result (λ found. IfSome found Lawful)
+      → LooksUpLawful g old new result one HasOne Stands Lawful
+  looks_lawful looks lawful = record {
     leaves = looks.leaves;
     answers = looks.answers;
     missing = looks.missing;

@@ -1,5 +1,5 @@
 -- What calls leave, one after the other.
-use Rattle.std.proofs.Common.{◌≡◌, ℕ, List, false, Ok, Err, Result, IfOk, OnOk, IsErr, IsErrAnd, is_err, subst, sym, ◌∙◌}
+use Rattle.std.proofs.Common.{◌≡◌, inl, MatchResult, ℕ, List, false, Ok, Err, Result, IfOk, OnOk, IsErr, IsErrAnd, Option, is_err, refl, subst, sym, ◌∙◌, Bool}
 use Rattle.fax_store.proofs.StoreLemmas.{clean_in, served}
 use Rattle.fax_store.proofs.StatementLemmas.{left_open, run_open}
 use Rattle.std.specs.Prelude.{⊤}
@@ -10,9 +10,12 @@ use Rattle.sqlite.specs.declared.error.Error.{Error}
 use Rattle.sqlite_trees.specs.declared.store.Store.{Ghosts}
 use Rattle.fax_core.specs.Ledger.{Ledger}
 use Rattle.fax_core.specs.Queue.{Queue}
-use Rattle.fax_store.specs.Calls.{Answers, Calls, Edits, Finds, Follows, Inserts, Looks, Makes, MakesIf, MakesIfWhere, MakesWhere, Runs, Tells, TellsLawful, Writes, WritesIf, WritesIfWhere, WritesWhere, shown, within}
+use Rattle.sqlite.proofs.InsideLemmas.{unchanged_keeps}
+use Rattle.sqlite.specs.Effect.{Database}
+use Rattle.fax_store.specs.Adopt.{Tests}
+use Rattle.fax_store.specs.Calls.{Answers, Calls, Edits, Finds, Follows, Inserts, Looks, Makes, MakesIf, MakesIfWhere, MakesWhere, Queries, Runs, Tells, TellsLawful, Writes, WritesIf, WritesIfWhere, WritesWhere, shown, within}
 use Rattle.fax_store.specs.Work.{IsOnlyUnavailable, IsUnderWay, Moves, Steps, Works}
-use Rattle.fax_store.specs.Store.{CommitsNothing, HasRun, HasTables, Means, MeansNow, Reads, Serves, IsEditText, LeavesCommit}
+use Rattle.fax_store.specs.Store.{CommitsNothing, FindsRow, HasRun, HasTables, Means, MeansNow, Reads, Serves, IsEditText, LeavesCommit}
 use Rattle.fax_store.specs.declared.store.Store.{Store}
 use Rattle.fax_store.specs.declared.work.Work.{Work}
 use Rattle.fax_schema.specs.Schema.{our_tables}
@@ -21,8 +24,10 @@ use Rattle.fax_tables.specs.Fault.{fault_of}
 use Rattle.fax_tables.specs.Tables.{TablesMean}
 use Rattle.fax_tables.specs.declared.fault.StoreFault.{StoreFault}
 use Rattle.fax_tables.specs.declared.fault.StoreFault.TheVariants.{Unavailable}
-use Rattle.fax_store.proofs.StopLemmas.{withholds_by, withholds_err, withholds_then, edit_withholds, refused_withholds}
-use Rattle.fax_store.proofs.WorkLemmas.{changes_by, found_in, holds_by, holds_err, holds_then, keeps_by, move_by, moved_by, moves_of, only_unavailable, reads_same, refused_as, stays_by, step_by, step_of, steps_fault, steps_where, goes_on, edit_holds, left_holds, moves_by, never_ok}
+use Rattle.fax_store.proofs.StopLemmas.{withholds_by, withholds_then, edit_withholds, refused_withholds}
+use Rattle.fax_store.proofs.WorkLemmas.{found_in, holds_by, holds_then, keeps_by, moved_by, reads_same, stays_by, steps_fault, edit_holds, left_holds, never_ok}
+pub use Rattle.fax_tables.proofs.ResultLemmas.{on_err, or_weaker, passes_on, popped}
+pub use Rattle.fax_store.proofs.WorkLemmas.{err_as, goes_on, inside_by, move_by, moves_by, moves_of, ok_as, only_unavailable, reads_refused, refused_as, refused_steps, step_by, step_of, steps_where, there_as}
 
 -- the tables of a store that means something mean it now
 pub means_now : {s : State} {m : Queue} {k : Ledger} → Means s m k → MeansNow s m k
@@ -49,6 +54,25 @@ module _ {S : Type 0} (g : Ghosts S) where
   pub finds_as : (old new : Store S) {A B : Type 0} (x : A) (result : Result B StoreFault) → Finds g old new (Ok x) → Finds g old new result
   finds_as old new x result finds =
       finds_by old new result finds.served finds.clean (on_any result finds.opens) (λ tables clean. reads_same (shown g old) (shown g new) result (finds.reads tables clean)) finds.crash
+
+  -- a test of what it reads is of the tables
+  pub tests_by : {X : Database → Type 0} {old new : Store S} {A : Type 0} {x : A} (result : Result (Unit {0}) StoreFault) → Finds g old new (Ok x)
+      → (HasTables (shown g old) → HasCleanDisk (shown g new) → MatchResult result (λ _. X (shown g old).now) (λ _. ¬ X (shown g old).now))
+      → Tests X (shown g old) (shown g new) result
+  tests_by (Ok a) finds told = record {
+    ours = λ tables clean. (told tables clean, finds.reads tables clean);
+    left = λ clean tables. tt;
+    clean = finds.clean;
+    crash = finds.crash;
+    strange = λ tables clean is. absurd (let no = is in cc);
+  }
+  tests_by {X} {old} {new} (Err e) finds told = record {
+    ours = λ tables clean. tt;
+    left = λ clean tables. unchanged_keeps (shown g old) (shown g new) (inl (finds.reads tables clean));
+    clean = finds.clean;
+    crash = finds.crash;
+    strange = λ tables clean is. told tables clean;
+  }
 
   -- it changes nothing
   pub looks_of : (old new : Store S) {A : Type 0} (result : Result A StoreFault) → Finds g old new result → Looks g old new
@@ -109,18 +133,15 @@ module _ {S : Type 0} (g : Ghosts S) where
         }
 
   -- a refusal that is passed on
-  pub runs_err : (old new : Store S) {A B : Type 0} (fault : StoreFault) (result : Result B StoreFault) → IsErrAnd result (λ e. e ≡ fault) → Runs g {A = A} old new (Err fault) → Runs g old new result
-  runs_err old new fault result told runs = record {
-    served = runs.served;
-    clean = runs.clean;
-    holds = holds_err (shown g old) (shown g new) result (λ e. e ≡ fault) told runs.holds;
-    crash = withholds_err (shown g old) (shown g new) result (λ e. e ≡ fault) told runs.crash;
-  }
+  pub runs_err : {old new : Store S} {A B : Type 0} {fault : StoreFault} (result : Result A StoreFault) → IsErrAnd result (λ e. e ≡ fault)
+      → Runs g {A = B} old new (Err fault) → Runs g old new result
+  runs_err (Ok a) told runs = absurd told
+  runs_err (Err e) told runs = record { served = runs.served; clean = runs.clean; holds = runs.holds; crash = runs.crash }
 
   -- what is refused makes nothing of what the tables mean, and the last commit stands
   module _ {old new : Store S} {A B : Type 0} (result : Result A StoreFault) {fault : StoreFault} (told : IsErrAnd result (λ e. e ≡ fault)) (refused : Runs g {A = B} old new (Err fault)) where
     runs : Runs g old new result
-    runs = runs_err old new fault result told refused
+    runs = runs_err result told refused
 
     moved : (m₀ m after : Queue) (k₀ k kept : Ledger) → Works (shown g old) false m₀ k₀ m k → Serves (shown g new) → Moves (shown g new) result m₀ k₀ after kept
     moved m₀ m after k₀ k kept works s = moves_by (shown g old) (shown g new) result m₀ m after k₀ k kept runs.served runs.holds works s
@@ -168,19 +189,17 @@ module _ {S : Type 0} (g : Ghosts S) where
     abbrev pub Does : Queue → Ledger → Type 0
     Does m k = TablesMean (shown g old).now m k → HasRun sql params (shown g old) (shown g new) → TablesMean (shown g new).now (f m) (h k) × KeepsOthers our_tables tree (shown g old) (shown g new)
 
-    pub writes_by : Edits g old new result sql params → ((m : Queue) (k : Ledger) → Does m k) → Writes g old new result f h
-    writes_by edits does = record {
-      leaves = edits.leaves;
-      written = λ m₀ m k₀ k works s. step_by (shown g old) (shown g new) sql params tree result m₀ m (f m) k₀ k (h k) edits.leaves.served works s (edits.ran s.clean) (edits.left s.clean) edits.cause (does m k);
-      cause = edits.cause;
-    }
-
     pub writes_where_by : (P : Queue → Type 0) → Edits g old new result sql params → ((m : Queue) (k : Ledger) → P m → Does m k) → WritesWhere g old new result P f h
     writes_where_by P edits does = record {
       leaves = edits.leaves;
       written = λ m₀ m k₀ k p works s. step_by (shown g old) (shown g new) sql params tree result m₀ m (f m) k₀ k (h k) edits.leaves.served works s (edits.ran s.clean) (edits.left s.clean) edits.cause (does m k p);
       cause = edits.cause;
     }
+
+    pub writes_by : Edits g old new result sql params → ((m : Queue) (k : Ledger) → Does m k) → Writes g old new result f h
+    writes_by edits does =
+        let writes = writes_where_by (λ _. ⊤) edits (λ m k _. does m k) in
+        record { leaves = writes.leaves; written = λ m₀ m k₀ k. writes.written m₀ m k₀ k tt; cause = writes.cause }
 
     -- so does one that puts a row in, which breaks no rule where this is fit
     pub writes_if_by : (Fit : Queue → Ledger → Type 0) → Inserts g old new result sql params → ((m : Queue) (k : Ledger) → Does m k)
@@ -192,7 +211,11 @@ module _ {S : Type 0} (g : Ghosts S) where
       cause = only_unavailable (shown g old) (shown g new) sql params result Fit inserts.leaves.served inserts.told goes;
     }
 
-  -- a statement, with its parameters as they are meant
+  -- a query and a statement, with their parameters as they are meant
+  pub queries_with : (old new : Store S) (result : Result (Option Row) StoreFault) (sql : List ℕ) (params meant : Row) → params ≡ meant
+      → Queries g old new result (FindsRow sql params (shown g old) (shown g new)) → Queries g old new result (FindsRow sql meant (shown g old) (shown g new))
+  queries_with old new result sql params meant same = subst (λ p. Queries g old new result (FindsRow sql p (shown g old) (shown g new))) same
+
   pub edits_with : (old new : Store S) (result : Result (Unit {0}) StoreFault) (sql : List ℕ) (params meant : Row) → params ≡ meant → Edits g old new result sql params → Edits g old new result sql meant
   edits_with old new result sql params meant same = subst (Edits g old new result sql) same
 
@@ -213,55 +236,68 @@ module _ {S : Type 0} (g : Ghosts S) where
     crash = withholds_then (within g old) (within g between) (within g new) _ first.crash next.crash;
   }
 
-  module _ (old new : Work S) {A : Type 0} (result : Result A StoreFault) (on : old.failed ≡ false) (failed : new.failed ≡ is_err result) where
-    -- a call of its store is one of the work
-    pub calls_by : new.store.ghost_name ≡ old.store.ghost_name → Runs g old.store.now new.store.now result → Calls g old new result
-    calls_by same runs = record {
-      same_reference = same;
+  -- the work, where its store became this one, and the call was refused or not
+  abbrev pub after : Work S → Store S → Bool → Work S
+  after old next failed = record { store = record old.store { now = next }; failed = failed }
+
+  -- where no call was refused before, a call of its store is one of the work
+  module _ {old : Work S} {next : Store S} {failed : Bool} {A : Type 0} {result : Result A StoreFault}
+      (on : old.failed ≡ false) (fails : failed ≡ is_err result) where
+    pub calls_by : Runs g old.store.now next result → Calls g old (after old next failed) result
+    calls_by runs = record {
+      same_reference = refl;
       served = runs.served;
       clean = runs.clean;
-      holds = rw (on, failed) runs.holds;
-      crash = rw (on, failed) runs.crash;
-      fails = failed;
+      holds = rw (on, fails) runs.holds;
+      crash = rw (on, fails) runs.crash;
+      fails = fails;
       refused = λ was. absurd (false≢true (sym on ∙ was));
     }
 
     -- and so is a reading
-    pub tells_by : new.store.ghost_name ≡ old.store.ghost_name → (P : Queue → Ledger → A → Type 0) → Finds g old.store.now new.store.now result → Answers g old.store.now new.store.now result P → Tells g old new result P
-    tells_by same P finds answers = record {
-      leaves = calls_by same (runs_of finds);
-      keeps = rw (on, failed) (keeps_by (within g old) (within g new) finds.served result finds.reads P answers);
-      found = rw on (found_in (within g old) (within g new) finds.served result finds.reads P answers);
+    pub tells_by : {P : Queue → Ledger → A → Type 0} → Finds g old.store.now next result → Answers g old.store.now next result P
+        → Tells g old (after old next failed) result P
+    tells_by {P} finds answers = record {
+      leaves = calls_by (runs_of finds);
+      keeps = rw (on, fails) (keeps_by (shown g old.store.now) (shown g next) finds.served result finds.reads);
+      found = rw on (found_in (shown g old.store.now) (shown g next) finds.served result finds.reads P answers);
     }
 
-    pub tells_lawful_by : new.store.ghost_name ≡ old.store.ghost_name → (P : Queue → Ledger → A → Type 0) (Lawful : A → Type 0) → Finds g old.store.now new.store.now result → Answers g old.store.now new.store.now result P → IfOk result Lawful
-        → TellsLawful g old new result P Lawful
-    tells_lawful_by same P Lawful finds answers lawful =
-        let tells = tells_by same P finds answers in
+    pub tells_lawful_by : {P : Queue → Ledger → A → Type 0} {Lawful : A → Type 0} → Finds g old.store.now next result → Answers g old.store.now next result P
+        → IfOk result Lawful → TellsLawful g old (after old next failed) result P Lawful
+    tells_lawful_by {P} {Lawful} finds answers lawful =
+        let tells = tells_by {P = P} finds answers in
         record { leaves = tells.leaves; keeps = tells.keeps; found = tells.found; lawful = lawful }
 
     -- and so is what the store makes within it
-    module _ (same : new.store.ghost_name ≡ old.store.ghost_name) where
-      pub makes_by : (f : Queue → Queue) (h : Ledger → Ledger) → Writes g old.store.now new.store.now result f h → Makes g old new result f h
-      makes_by f h writes = record { leaves = calls_by same writes.leaves; changes = rw (on, failed) (changes_by (within g old) (within g new) result f h writes.written); cause = writes.cause }
-
-      pub makes_where_by : (P : Queue → Type 0) (f : Queue → Queue) (h : Ledger → Ledger) → WritesWhere g old.store.now new.store.now result P f h → MakesWhere g old new result P f h
-      makes_where_by P f h writes = record {
-        leaves = calls_by same writes.leaves;
-        changes = rw (on, failed) (steps_where (within g old) (within g new) P result f h (λ m₀ m k₀ k p works s. moves_of (within g new) result m₀ (f m) k₀ (h k) (writes.written m₀ m k₀ k p works s)));
+    module _ {f : Queue → Queue} {h : Ledger → Ledger} where
+      pub makes_by : Writes g old.store.now next result f h → Makes g old (after old next failed) result f h
+      makes_by writes = record {
+        leaves = calls_by writes.leaves;
+        changes = rw (on, fails) (moved_by (shown g old.store.now) (shown g next) result f h
+            (λ m₀ m k₀ k works s. moves_of (shown g next) result m₀ (f m) k₀ (h k) (writes.written m₀ m k₀ k works s)));
         cause = writes.cause;
       }
 
-      pub makes_if_by : (Fit : Queue → Ledger → Type 0) (f : Queue → Queue) (h : Ledger → Ledger) → WritesIf g old.store.now new.store.now result Fit f h → MakesIf g old new result Fit f h
-      makes_if_by Fit f h writes = record {
-        leaves = calls_by same writes.leaves;
-        changes = rw (on, failed) (moved_by (within g old) (within g new) result f h writes.written);
-        cause = λ m₀ m k₀ k works s fits. writes.cause m₀ m k₀ k (subst (λ b. Works (within g old) b m₀ k₀ m k) on works) s fits;
+      pub makes_where_by : {P : Queue → Type 0} → WritesWhere g old.store.now next result P f h → MakesWhere g old (after old next failed) result P f h
+      makes_where_by {P} writes = record {
+        leaves = calls_by writes.leaves;
+        changes = rw (on, fails) (steps_where (shown g old.store.now) (shown g next) P result f h
+            (λ m₀ m k₀ k p works s. moves_of (shown g next) result m₀ (f m) k₀ (h k) (writes.written m₀ m k₀ k p works s)));
+        cause = writes.cause;
       }
 
-      pub makes_if_where_by : (P : Queue → Type 0) (Fit : Queue → Ledger → Type 0) (f : Queue → Queue) (h : Ledger → Ledger) → WritesIfWhere g old.store.now new.store.now result P Fit f h → MakesIfWhere g old new result P Fit f h
-      makes_if_where_by P Fit f h writes = record {
-        leaves = calls_by same writes.leaves;
-        changes = rw (on, failed) (steps_where (within g old) (within g new) P result f h writes.written);
-        cause = λ m₀ m k₀ k works s fits. writes.cause m₀ m k₀ k (subst (λ b. Works (within g old) b m₀ k₀ m k) on works) s fits;
+      pub makes_if_by : {Fit : Queue → Ledger → Type 0} → WritesIf g old.store.now next result Fit f h → MakesIf g old (after old next failed) result Fit f h
+      makes_if_by writes = record {
+        leaves = calls_by writes.leaves;
+        changes = rw (on, fails) (moved_by (shown g old.store.now) (shown g next) result f h writes.written);
+        cause = λ m₀ m k₀ k works s fits. writes.cause m₀ m k₀ k (subst (λ b. Works (shown g old.store.now) b m₀ k₀ m k) on works) s fits;
+      }
+
+      pub makes_if_where_by : {P : Queue → Type 0} {Fit : Queue → Ledger → Type 0} → WritesIfWhere g old.store.now next result P Fit f h
+          → MakesIfWhere g old (after old next failed) result P Fit f h
+      makes_if_where_by {P} writes = record {
+        leaves = calls_by writes.leaves;
+        changes = rw (on, fails) (steps_where (shown g old.store.now) (shown g next) P result f h writes.written);
+        cause = λ m₀ m k₀ k works s fits. writes.cause m₀ m k₀ k (subst (λ b. Works (shown g old.store.now) b m₀ k₀ m k) on works) s fits;
       }

@@ -1,7 +1,5 @@
 -- What the texts on grants and holds read and write.
-use Rattle.std.proofs.Common.{◌≡◌, ℕ, [], ◌∷◌, Option, Some, None, drop, refl, ◌≤◌, inl, inr, ℤ, pos, List, ◌++◌, map, filter, Bool, true, false, not, ◌&&◌, Err, if◌then◌else◌, IsTrue, cond, sym, ap, ap₂, subst, ◌∙◌, ◌+◌, ◌-◌, arith}
-use Rattle.std.specs.Option.{option_map}
-use Rattle.std.specs.Prelude.{◌==◌, find}
+use Rattle.std.proofs.Common.{◌≡◌, ℕ, [], ◌∷◌, Option, Some, None, drop, refl, ◌≤◌, inl, inr, pos, List, ◌++◌, map, filter, Bool, true, false, not, ◌&&◌, Err, if◌then◌else◌, IsTrue, cond, sym, ap, ap₂, subst, ◌∙◌, ◌+◌, ◌-◌, arith, option_map, ◌==◌, find, IsPermutation, bytes_eq, is_eq}
 use Rattle.sqlite.specs.Effect.{Database, IsDatabase}
 use Rattle.sqlite.specs.Order.{Row, column}
 use Rattle.sqlite.specs.State.{State, Executes}
@@ -21,20 +19,18 @@ use Rattle.fax_store.specs.declared.store.Store.{Store}
 use Rattle.fax_tables.specs.Tables.{IsLawfulGrant, TablesMean, HaveJobs}
 use Rattle.fax_schema.proofs.CompareLemmas.{number_same, are_equal, equal_texts, is_number, same_row, cast_int, cast_null, compared}
 use Rattle.fax_schema.proofs.GrantTexts.{grant_names, grant_tests, grant_project, select_grant, grant_terms, report_project, shut_project, held_tests, hold_terms, insert_grant, insert_hold, update_report, shut_grant, delete_hold, hold_tests, hold_project, select_hold}
-use Rattle.fax_store.proofs.FoundLemmas.{none_keyed, one_numbered, Keys, key_of, one_passes, none_passes, row_passes, with_id}
+use Rattle.fax_store.proofs.FoundLemmas.{agree_at, none_keyed, one_numbered, Keys, key_of, one_passes, none_passes, row_passes, with_id}
 use Rattle.fax_tables.proofs.KeyLemmas.{found_holds, numbered_found, only_numbered, asked_is, not_asked, row_placed, all_placed, placed_permuted, free_of}
 use Rattle.fax_schema.proofs.SelectLemmas.{passes, show, answers}
 use Rattle.std.proofs.lemmas.Option.{same_Some}
-use Rattle.std.proofs.lemmas.List.{map-id}
 use Rattle.std.proofs.Math.Bool.{and-true}
-use Rattle.std.specs.List.Sorted.{IsPermutation}
 use Rattle.std.proofs.lemmas.Bool.{cases_Bool, eqb-true, eq-eqb, false_from_ne_true, cond_both, and_parts, both_ways, not-true}
 use Rattle.std.proofs.lemmas.List.Sorted.{IsPermutation-sym, IsPermutation-trans, IsPermutation-cons, IsPermutation-to_front, IsPermutation-map}
 use Rattle.sqlite.specs.Cast.{cast_row}
 use Rattle.sqlite.specs.Edit.{is_taken, with_rowid, next_rowid}
 use Rattle.sqlite.specs.Rowids.TheVariants.{Chosen}
 use Rattle.sqlite.specs.Tree.{rowid, put_row, IsTable}
-use Rattle.sqlite.specs.declared.types.Value.TheVariants.{Null, Int, Text, Real, Blob}
+use Rattle.sqlite.specs.declared.types.Value.TheVariants.{Null, Int, Text}
 use Rattle.sqlite_rules.specs.Lists.{Has}
 use Rattle.sqlite_rules.proofs.ListLemmas.{has_filtered, has_found, has_kept, all_has}
 use Rattle.sqlite_trees.proofs.ListLemmas.{IsPermutation-filter, filter_same, all_of}
@@ -46,7 +42,7 @@ use Rattle.fax_schema.specs.Schema as schema
 use Rattle.fax_schema.specs.ByRowid.{IsByRowid}
 use Rattle.fax_schema.proofs.AppendLemmas.{appended}
 use Rattle.fax_store.proofs.JobLemmas.{all_mapped}
-use Rattle.fax_store.proofs.CountLemmas.{calls_reported, closed_count, has_placed, jobs_reported, jobs_shut, one, one_less, one_more, placed_count, shut as shut_at}
+use Rattle.fax_store.proofs.CountLemmas.{calls_reported, closed_count, has_placed, jobs_reported, jobs_shut, one, one_less, one_more, placed_count, shut as shut_at, unmoved}
 use Rattle.fax_schema.proofs.ColumnLemmas.{kept_permuted, record_of, all_kept, row_of}
 use Rattle.fax_tables.proofs.FreeLemmas.{free_row, none_found}
 use Rattle.fax_tables.proofs.RefusalLemmas.{no_rule_broken}
@@ -54,22 +50,19 @@ use Rattle.fax_tables.proofs.StandLemmas.{hold_may, grant_may}
 use Rattle.fax_tables.specs.Fault.{fault_of}
 use Rattle.fax_tables.specs.declared.fault.StoreFault.TheVariants.{Unavailable}
 use Rattle.sqlite.specs.declared.error.Error.{Error}
-use Rattle.sqlite_schema.specs.Rules.{agree, Keeps, equal, clashes}
-use Rattle.sqlite_value.specs.Keys.{first_key, plain}
-use Rattle.std.specs.Str.{bytes_eq}
+use Rattle.sqlite_schema.specs.Rules.{Keeps, equal, clashes}
+use Rattle.sqlite_value.specs.Keys.{plain}
 use Rattle.fax_tables.proofs.TablesLemmas.{AreRecords, AreHeld, Parts, grants, holds, parts_of, means_of, calls_as, calls_changed, calls_of, held_as, grants_changed, holds_changed, by_rowid_put}
 use Rattle.fax_schema.proofs.UpdateLemmas.{gone_project, updated, deleted}
-use Rattle.fax_schema.proofs.WriteLemmas.{KeepsOthers, InsertsRow, unreferred, inserts}
+use Rattle.fax_schema.proofs.WriteLemmas.{KeepsOthers, unreferred, inserts}
 use Rattle.fax_store.proofs.KeptLemmas.{find_none, find_some, one_row}
-use Rattle.std.specs.Ordering.{is_eq, nat_cmp}
 use Rattle.std.proofs.lemmas.Slice.Eq.{bytes_eq-Decides}
 use Rattle.sqlite.specs.Collation.TheVariants.{Binary}
 use Rattle.sqlite.specs.declared.types.Value.{Value}
 use Rattle.sqlite_schema.specs.declared.schema.Constraint.TheVariants.{Unique}
-use Rattle.sqlite_sql.specs.Ops.{binary, is_null}
+use Rattle.sqlite_sql.specs.Ops.{binary}
 use Rattle.sqlite_sql.specs.Term.{Term}
 use Rattle.sqlite_sql.specs.declared.ops.CompareOp.TheVariants.{Eq}
-use Rattle.sqlite_value.specs.Order.{class}
 use Rattle.sqlite_value.proofs.KeyLemmas.{first_key-plain}
 use Rattle.sqlite_value.proofs.OrderLemmas.{value_cmp-apart}
 use Rattle.fax_tables.specs.declared.grants.Hold.{Hold}
@@ -120,28 +113,17 @@ module _ (g : Grant) where
   stored_hold : cast_row schema.holds (Null ∷ hold_columns g) ≡ Null ∷ hold_columns g
   stored_hold = same_row cast_null (same_row refl (same_row (cast_int (pos g.job)) (same_row (cast_int (pos g.number)) refl)))
 
-  -- the open grants with it
-  open_placed : (gs : List Grant) → IsTrue g.is_open → IsPermutation (g ∷ filter (λ x. x.is_open) gs) (filter (λ x. x.is_open) (placed (λ (x : Grant). x.number) g gs))
-  open_placed gs is_open =
-      let both = IsPermutation-filter (λ (x : Grant). x.is_open) (g ∷ gs) (placed (λ (x : Grant). x.number) g gs) (placed_permuted grant_row (λ (x : Grant). x.number) (λ x. refl) g gs) in
-      subst (λ (b : Bool). IsPermutation (if b then g ∷ filter (λ x. x.is_open) gs else filter (λ x. x.is_open) gs) (filter (λ x. x.is_open) (placed (λ (x : Grant). x.number) g gs))) is_open both
-
   -- the row of an open grant ends with a 0
   open_row : IsTrue g.is_open → grant_row g ≡ number g.number ∷ Null ∷ number g.job ∷ Text g.modem ∷ number g.first_page ∷ number g.last_page ∷ number (call_number g.call) ∷ number g.confirmed ∷ number 0 ∷ []
   open_row is_open = rw is_open refl
 
   module _ (old mid : State) (m : Queue) (k : Ledger) (means : TablesMean old.now m k) where
-    -- the text that holds inserts the grant's hold, with the next rowid
-    hold_inserted : HasRun INSERT_HOLD.now hold_params old mid → InsertsRow our_tables holds_tree old mid (Int (next_rowid (old.now.trees holds_tree)) ∷ hold_columns g)
-    hold_inserted h =
-        let ran = runs_as INSERT_HOLD.now hold_params old mid our_tables means.schema _ insert_hold.is insert_hold.plain h.0 h.1 in
-        inserts our_tables unreferred schema.holds.name 2 schema.holds.columns schema.holds.key schema.holds.primary schema.holds.uniques schema.holds.orders schema.holds.checks 2 refl old mid means.schema hold_params _ h.0
-        hold_terms 4 (Null ∷ hold_columns g) (Int (next_rowid (old.now.trees holds_tree)) ∷ hold_columns g) refl (ap (with_rowid Chosen (old.now.trees holds_tree)) stored_hold) ran
-
-    -- its modem and its job hold it, and it is to be put yet
+    -- the text that holds inserts the grant's hold, with the next rowid: its modem and its job hold it, and it is to be put yet
     held : HasRun INSERT_HOLD.now hold_params old mid → Parts mid.now m (g ∷ open_grants m) (calls_of m) k
     held h =
-        let done = hold_inserted h in
+        let ran = runs_as INSERT_HOLD.now hold_params old mid our_tables means.schema _ insert_hold.is insert_hold.plain h.0 h.1 in
+        let done = inserts our_tables unreferred schema.holds.name 2 schema.holds.columns schema.holds.key schema.holds.primary schema.holds.uniques schema.holds.orders schema.holds.checks 2 refl old mid means.schema hold_params _ h.0
+        hold_terms 4 (Null ∷ hold_columns g) (Int (next_rowid (old.now.trees holds_tree)) ∷ hold_columns g) refl (ap (with_rowid Chosen (old.now.trees holds_tree)) stored_hold) ran in
         let by = means.ordered.holds in
         let columns = map (drop 1) (old.now.trees holds_tree) in
         let more : IsPermutation (hold_columns g ∷ map hold_columns (open_grants m)) (columns ++ hold_columns g ∷ []) =
@@ -168,25 +150,15 @@ module _ (g : Grant) where
           lawful = all_placed grant_row (λ (x : Grant). x.number) (λ x. refl) IsLawfulGrant g m.grants lawful (was.says grants).lawful;
         } in
         let after = grants_changed mid new m (g ∷ open_grants m) (calls_of m) k was done.keeps (placed (λ (x : Grant). x.number) g m.grants) now in
+        let both = IsPermutation-filter (λ (x : Grant). x.is_open) (g ∷ m.grants) (placed (λ (x : Grant). x.number) g m.grants)
+        (placed_permuted grant_row (λ (x : Grant). x.number) (λ x. refl) g m.grants) in
+        let opened = subst (λ (b : Bool). IsPermutation (if b then g ∷ open_grants m else open_grants m) (open_grants (with_placed g m))) is_open both in
         let stand : AreHeld (new.now.trees holds_tree) (open_grants (with_placed g m)) = record {
           is = IsPermutation-trans (map hold_columns (open_grants (with_placed g m))) (map hold_columns (g ∷ open_grants m)) (map (drop 1) (new.now.trees holds_tree))
-              (IsPermutation-map hold_columns (open_grants (with_placed g m)) (g ∷ open_grants m) (IsPermutation-sym (g ∷ open_grants m) (open_grants (with_placed g m)) (open_placed m.grants is_open))) (after.says holds).is;
+              (IsPermutation-map hold_columns (open_grants (with_placed g m)) (g ∷ open_grants m) (IsPermutation-sym (g ∷ open_grants m) (open_grants (with_placed g m)) opened)) (after.says holds).is;
           ordered = (after.says holds).ordered;
         } in
         held_as new.now (with_placed g m) (g ∷ open_grants m) (open_grants (with_placed g m)) (calls_of m) k stand after
-
-    -- the row of a hold agrees with the new one where modem, job or grant is the same
-    modem_agrees : (r : Row) (h : Grant) (id : ℤ) → drop 1 r ≡ hold_columns h → agree plain (1 ∷ []) r (1 ∷ []) (Int id ∷ hold_columns g) ≡ bytes_eq h.modem g.modem
-    unfolding first_key
-    modem_agrees r h id is = ap (λ r. agree plain (1 ∷ []) r (1 ∷ []) (Int id ∷ hold_columns g)) (with_id r _ _ is) ∙ and-true (are_equal (Text h.modem) (Text g.modem)) ∙ equal_texts h.modem g.modem
-
-    job_agrees : (r : Row) (h : Grant) (id : ℤ) → drop 1 r ≡ hold_columns h → agree plain (2 ∷ []) r (2 ∷ []) (Int id ∷ hold_columns g) ≡ (h.job == g.job)
-    unfolding first_key
-    job_agrees r h id is = ap (λ r. agree plain (2 ∷ []) r (2 ∷ []) (Int id ∷ hold_columns g)) (with_id r _ _ is) ∙ and-true (are_equal (number h.job) (number g.job)) ∙ is_number h.job g.job
-
-    number_agrees : (r : Row) (h : Grant) (id : ℤ) → drop 1 r ≡ hold_columns h → agree plain (3 ∷ []) r (3 ∷ []) (Int id ∷ hold_columns g) ≡ (h.number == g.number)
-    unfolding first_key
-    number_agrees r h id is = ap (λ r. agree plain (3 ∷ []) r (3 ∷ []) (Int id ∷ hold_columns g)) (with_id r _ _ is) ∙ and-true (are_equal (number h.number) (number g.number)) ∙ is_number h.number g.number
 
     -- a hold of a modem and a job that hold none breaks no rule
     pub hold_goes : IsNewGrant g m → (e : Error) → Executes INSERT_HOLD.now hold_params old mid (Err e) → fault_of e ≡ Unavailable
@@ -194,10 +166,15 @@ module _ (g : Grant) where
         let rows = old.now.trees holds_tree in
         let id = next_rowid rows in
         let by = λ (r : Row) (has : Has rows r). record_of hold_columns rows (open_grants m) means.holds r has in
+        let same_at = λ (at : ℕ) (r : Row) (h : Grant) (is : drop 1 r ≡ hold_columns h). agree_at at r (Int id ∷ hold_columns g)
+        ∙ ap (λ r. are_equal (column r at) (column (Int id ∷ hold_columns g) at)) (with_id r _ _ is) in
         let may = hold_may old.now means.schema means.sound g means.ordered.holds
-        (λ r has. let it = by r has in modem_agrees r it.0 id it.2 ∙ none_found (λ (h : Grant). bytes_eq h.modem g.modem) (open_grants m) it.0 free.modem it.1)
-        (λ r has. let it = by r has in job_agrees r it.0 id it.2 ∙ false_from_ne_true _ (λ same. free.job it.0 it.1 (eqb-true it.0.job g.job same)))
-        (λ r has. let it = by r has in number_agrees r it.0 id it.2 ∙ none_found (λ (h : Grant). h.number == g.number) m.grants it.0 free.number (has_filtered (λ (h : Grant). h.is_open) m.grants it.0 it.1).0) in
+        (λ r has. let it = by r has in same_at 1 r it.0 it.2 ∙ equal_texts it.0.modem g.modem
+        ∙ none_found (λ (h : Grant). bytes_eq h.modem g.modem) (open_grants m) it.0 free.modem it.1)
+        (λ r has. let it = by r has in same_at 2 r it.0 it.2 ∙ is_number it.0.job g.job
+        ∙ false_from_ne_true _ (λ same. free.job it.0 it.1 (eqb-true it.0.job g.job same)))
+        (λ r has. let it = by r has in same_at 3 r it.0 it.2 ∙ is_number it.0.number g.number
+        ∙ none_found (λ (h : Grant). h.number == g.number) m.grants it.0 free.number (has_filtered (λ (h : Grant). h.is_open) m.grants it.0 it.1).0) in
         no_rule_broken schema.holds.name 2 schema.holds.columns schema.holds.key schema.holds.primary schema.holds.uniques schema.holds.orders schema.holds.checks 2 refl old means.schema hold_params hold_terms 4 (Null ∷ hold_columns g)
         (Int id ∷ hold_columns g) refl (ap (with_rowid Chosen rows) stored_hold) may INSERT_HOLD.now insert_hold mid
 
@@ -211,20 +188,16 @@ module _ (g : Grant) where
         (ap (λ r. r ∷ []) (sym (open_row is_open))) (ap (with_rowid Chosen (mid.now.trees grants_tree)) (stored_grant g)) may INSERT_GRANT.now insert_grant new
 
   module _ (m : Queue) (have : HaveJobs m) where
-    -- the calls to each number with this one
-    counts_placed : (j : Job) → job_numbered g.job m ≡ Some j → IsTrue g.is_open → (dial : List ℕ) → with_count j.dial (calls_of m j.dial + 1) (calls_of m) dial ≡ calls_of (with_placed g m) dial
-    counts_placed j there is_open =
-        one_more j.dial (calls_of m) (calls_of (with_placed g m)) (λ dial. placed_count (λ x. is_of_number dial (job_numbered x.job m)) g m.grants
-        ∙ ap₂ (λ b o. one (b && is_of_number dial o) + calls_of m dial) is_open there)
-
-    -- once that is counted, the tables mean the queue with the grant
+    -- once the calls to each number are counted with this one, the tables mean the queue with the grant
     pub grant_counted : (new last : State) (k : Ledger) (j : Job) → job_numbered g.job m ≡ Some j → IsTrue g.is_open → Parts new.now (with_placed g m)
         (open_grants (with_placed g m)) (calls_of m) k → SetsCalls new last (with_count j.dial (calls_of m j.dial + 1) (calls_of m))
         → TablesMean last.now (with_placed g m) k
     grant_counted new last k j there is_open was set =
         let after = with_placed g m in
+        let counts = one_more j.dial (calls_of m) (calls_of after) (λ dial. placed_count (λ x. is_of_number dial (job_numbered x.job m)) g m.grants
+        ∙ ap₂ (λ b o. one (b && is_of_number dial o) + calls_of m dial) is_open there) in
         means_of last.now after k jobs
-        (calls_as last.now after (open_grants after) (with_count j.dial (calls_of m j.dial + 1) (calls_of m)) (calls_of after) k (counts_placed j there is_open)
+        (calls_as last.now after (open_grants after) (with_count j.dial (calls_of m j.dial + 1) (calls_of m)) (calls_of after) k counts
         (calls_changed new last after (open_grants after) (calls_of m) k was set.schema_is set.sound set.rows (with_count j.dial (calls_of m j.dial + 1) (calls_of m)) set.calls))
       where
         jobs : HaveJobs (with_placed g m)
@@ -321,11 +294,6 @@ module _ (n : ℕ) where
   abbrev shut : Grant → Grant
   shut = shut_at n
 
-  -- a lawful grant stays lawful, shut or not
-  shut_lawful : (x : Grant) → IsLawfulGrant x → IsLawfulGrant (shut x)
-  shut_lawful x was = cond_both (x.number == n) (closed x) x IsLawfulGrant
-      (λ _. record { limits = record { number = was.limits.number; job = was.limits.job; pages = was.limits.pages }; modem = was.modem }) (λ _. was)
-
   abbrev but_this : List Grant → List Grant
   but_this = filter (λ x. not (x.number == n))
 
@@ -347,56 +315,53 @@ module _ (n : ℕ) where
     only x has is = subst (λ i. find (λ (y : Grant). y.number == i) m.grants ≡ Some x) is (only_numbered grant_row (λ (y : Grant). y.number) (λ y. refl) m.grants x rise has)
 
     -- shutting each grant of the number shuts the one that the number finds, if any
-    closed_by : (o : Option Grant) → grant_numbered n m ≡ o → map shut m.grants ≡ (with_shut o m).grants
+    closed_by : (o : Option Grant) → grant_numbered n m ≡ o → record m { grants = map shut m.grants } ≡ with_shut o m
     closed_by None none =
-        map_same shut (λ x. x) m.grants (λ x has. cond_both (x.number == n) (closed x) x (λ y. y ≡ x)
-        (λ here. absurd (let no = sym none ∙ only x has (eqb-true x.number n here) in cc)) (λ _. refl)) ∙ map-id m.grants
+        ap (λ gs. record m { grants = gs }) (unmoved shut m.grants (λ x has. cond_both (x.number == n) (closed x) x (λ y. y ≡ x)
+        (λ here. absurd (let no = sym none ∙ only x has (eqb-true x.number n here) in cc)) (λ _. refl)))
     closed_by (Some g) its =
         let is = eqb-true g.number n (has_found (λ (y : Grant). y.number == n) m.grants g its).1 in
-        map_same shut (λ x. if x.number == g.number then closed g else x) m.grants (λ x has.
+        ap (λ gs. record m { grants = gs }) (map_same shut (λ x. if x.number == g.number then closed g else x) m.grants (λ x has.
         let same : (x.number == g.number) ≡ (x.number == n) = ap (λ i. x.number == i) is in
         rw same (elim (cases_Bool (x.number == n)) [
           | inl here ↦ rw here (ap closed (same_Some x g (sym (only x has (eqb-true x.number n here)) ∙ its)))
           | inr off ↦ rw off refl
-        ]))
-
-    -- shutting what was found changes the grants alone
-    as_closed : (o : Option Grant) → record m { grants = (with_shut o m).grants } ≡ with_shut o m
-    as_closed None = refl
-    as_closed (Some g) = refl
+        ])))
 
     -- shutting each grant of the number is closing it
     pub closed_is : record m { grants = map shut m.grants } ≡ with_closed n m
-    closed_is = ap (λ gs. record m { grants = gs }) (closed_by (grant_numbered n m) refl) ∙ as_closed (grant_numbered n m)
+    closed_is = closed_by (grant_numbered n m) refl
 
   abbrev pub after : Queue → Queue
   after m = record m { grants = map shut m.grants }
 
   module _ (old mid new : State) (m : Queue) (k : Ledger) (means : TablesMean old.now m k) where
-    -- the text that shuts a grant touches grants alone, and shuts the one of the number
-    grants_shut : HasRun SHUT_GRANT.now close_params old mid → KeepsOthers our_tables grants_tree old mid × AreRecords grant_row IsLawfulGrant (mid.now.trees grants_tree) (map shut m.grants)
-    grants_shut h =
-        let is_one = asked_is grant_row (λ (y : Grant). y.number) (λ y. refl) n (passes grants_tree grant_tests shut_project close_params) (λ r. refl) in
-        let is_other = not_asked grant_row (λ (y : Grant). y.number) (λ y. refl) n (passes grants_tree grant_tests shut_project close_params) (λ r. refl) in
-        let ran = runs_as SHUT_GRANT.now close_params old mid our_tables means.schema _ shut_grant.is shut_grant.plain h.0 h.1 in
-        let done = updated schema.grants.name 1 schema.grants.columns schema.grants.key schema.grants.primary schema.grants.uniques schema.grants.orders schema.grants.checks 1 refl old mid means.schema refl means.ordered.grants
-        grant_tests shut_project close_params (λ r. refl) _ h.0 grant_row shut m.grants means.grants
-        (λ x. cond_both (x.number == n) (closed x) x (λ y. rowid (grant_row y) ≡ rowid (grant_row x)) (λ _. refl) (λ _. refl))
-        (λ x has on. stored_grant (closed x) ∙ rw (eq-eqb x.number n (is_one x on)) refl)
-        (λ x has off. rw (is_other x off) refl)
-        ran in
-        (done.0, record { is = done.1; ordered = done.2; lawful = all_mapped IsLawfulGrant shut m.grants (λ x has. shut_lawful x) means.lawful.grants })
-
     -- a hold passes where its grant is the one of this number
     is_held : (r : Row) → passes holds_tree held_tests gone_project close_params r ≡ (are_equal (column (drop 1 r) 2) (number n) && true)
     is_held [] = refl
     is_held (v ∷ r) = refl
 
-    -- the grant is shut and held no more, and its call is to be taken off yet
+    -- the text that shuts a grant shuts the one of the number; it is held no more, and its call is to be taken off yet
     pub grant_closed : HasRun SHUT_GRANT.now close_params old mid → HasRun DELETE_HOLD.now close_params mid new → Parts new.now (after m) (open_grants (after m)) (calls_of m) k
     grant_closed h more =
-        let first = grants_shut h in
-        let was = grants_changed old mid m (open_grants m) (calls_of m) k (parts_of old.now m k means) first.0 (map shut m.grants) first.1 in
+        let is_one = asked_is grant_row (λ (y : Grant). y.number) (λ y. refl) n (passes grants_tree grant_tests shut_project close_params) (λ r. refl) in
+        let is_other = not_asked grant_row (λ (y : Grant). y.number) (λ y. refl) n (passes grants_tree grant_tests shut_project close_params) (λ r. refl) in
+        let shuts = runs_as SHUT_GRANT.now close_params old mid our_tables means.schema _ shut_grant.is shut_grant.plain h.0 h.1 in
+        let first = updated schema.grants.name 1 schema.grants.columns schema.grants.key schema.grants.primary schema.grants.uniques schema.grants.orders schema.grants.checks 1 refl old mid means.schema refl means.ordered.grants
+        grant_tests shut_project close_params (λ r. refl) _ h.0 grant_row shut m.grants means.grants
+        (λ x. cond_both (x.number == n) (closed x) x (λ y. rowid (grant_row y) ≡ rowid (grant_row x)) (λ _. refl) (λ _. refl))
+        (λ x has on. stored_grant (closed x) ∙ rw (eq-eqb x.number n (is_one x on)) refl)
+        (λ x has off. rw (is_other x off) refl)
+        shuts in
+        let now_shut : AreRecords grant_row IsLawfulGrant (mid.now.trees grants_tree) (map shut m.grants) =
+        record {
+          is = first.1;
+          ordered = first.2;
+          lawful = all_mapped IsLawfulGrant shut m.grants (λ x has was. cond_both (x.number == n) (closed x) x IsLawfulGrant
+              (λ _. record { limits = record { number = was.limits.number; job = was.limits.job; pages = was.limits.pages }; modem = was.modem }) (λ _. was))
+              means.lawful.grants;
+        } in
+        let was = grants_changed old mid m (open_grants m) (calls_of m) k (parts_of old.now m k means) first.0 (map shut m.grants) now_shut in
         let ran = runs_as DELETE_HOLD.now close_params mid new our_tables was.schema _ delete_hold.is delete_hold.plain more.0 more.1 in
         let done = deleted schema.holds.name 2 schema.holds.columns schema.holds.key schema.holds.primary schema.holds.uniques schema.holds.orders schema.holds.checks 2 refl mid new was.schema refl (was.says holds).ordered
         held_tests gone_project close_params (λ r. refl) _ more.0 ran in
@@ -412,25 +377,21 @@ module _ (n : ℕ) where
         holds_changed mid new (after m) (open_grants m) (calls_of m) k was done.0 (open_grants (after m)) now
 
   module _ (db : Database) (m : Queue) (k : Ledger) (means : TablesMean db m k) where
-    -- the calls to each number without this one
-    counts_closed : (g : Grant) (j : Job) → grant_numbered n m ≡ Some g → g.is_open ≡ true → job_numbered g.job m ≡ Some j → (dial : List ℕ) → with_count j.dial (calls_of m j.dial - 1) (calls_of m) dial ≡ calls_of (after m) dial
-    counts_closed g j found on there =
-        one_less j.dial (calls_of m) (calls_of (after m)) (λ dial. ap (λ o. calls_of (after m) dial + one (is_of_number dial o)) (sym there)
-        ∙ closed_count n (λ x. is_of_number dial (job_numbered x.job m)) g m.grants (subst IsTable means.grants means.ordered.grants.rise) found on)
-
-    -- once it is taken off, the tables mean the queue without the hold
+    -- once it is taken off, the calls to each number are without this one, and the tables mean the queue without the hold
     pub close_counted : (new last : State) (g : Grant) (j : Job) → grant_numbered n m ≡ Some g → g.is_open ≡ true → job_numbered g.job m ≡ Some j
         → Parts new.now (after m) (open_grants (after m)) (calls_of m) k → SetsCalls new last
         (with_count j.dial (calls_of m j.dial - 1) (calls_of m)) → TablesMean last.now (with_closed n m) k
     close_counted new last g j found on there was set =
+        let counts = one_less j.dial (calls_of m) (calls_of (after m)) (λ dial. ap (λ o. calls_of (after m) dial + one (is_of_number dial o)) (sym there)
+        ∙ closed_count n (λ x. is_of_number dial (job_numbered x.job m)) g m.grants (subst IsTable means.grants means.ordered.grants.rise) found on) in
         subst (λ it. TablesMean last.now it k) (closed_is m (subst IsTable means.grants means.ordered.grants.rise))
         (means_of last.now (after m) k (jobs_shut n m means.held)
-        (calls_as last.now (after m) (open_grants (after m)) (with_count j.dial (calls_of m j.dial - 1) (calls_of m)) (calls_of (after m)) k (counts_closed g j found on there)
+        (calls_as last.now (after m) (open_grants (after m)) (with_count j.dial (calls_of m j.dial - 1) (calls_of m)) (calls_of (after m)) k counts
         (calls_changed new last (after m) (open_grants (after m)) (calls_of m) k was set.schema_is set.sound set.rows (with_count j.dial (calls_of m j.dial - 1) (calls_of m)) set.calls)))
 
 -- a grant that is open no more changes nothing where it is closed
 pub closed_already : (n : ℕ) (g : Grant) (m : Queue) → IsTable (map grant_row m.grants) → grant_numbered n m ≡ Some g → g.is_open ≡ false → with_closed n m ≡ m
-closed_already n g m rise found off = sym (closed_is n m rise) ∙ ap (λ gs. record m { grants = gs }) (map_same (shut_at n) (λ x. x) m.grants each ∙ map-id m.grants)
+closed_already n g m rise found off = sym (closed_is n m rise) ∙ ap (λ gs. record m { grants = gs }) (unmoved (shut_at n) m.grants each)
   where
     each : (x : Grant) → Has m.grants x → shut_at n x ≡ x
     each x has = cond_both (x.number == n) (closed n x) x (λ y. y ≡ x)
@@ -440,15 +401,12 @@ closed_already n g m rise found off = sym (closed_is n m rise) ∙ ap (λ gs. re
 -- ---- a modem stands in one row
 
 module _ (db : Database) (has : db.schema ≡ our_tables) (sound : IsDatabase db) (by : IsByRowid (db.trees holds_tree)) where
-  -- no row of holds clashes with another in its modem
-  no_clash : (r : Row) → Has (db.trees holds_tree) r → clashes plain (1 ∷ []) (db.trees holds_tree) r ≡ false
-  no_clash r there =
-      let keeps : Keeps Unique our_tables db.trees = subst (λ s. Keeps Unique s db.trees) has (sound.obeys.rules Unique) in
-      not-true _ (and_parts (not (clashes plain (1 ∷ []) (db.trees holds_tree) r)) _ (all_has _ (db.trees holds_tree) r keeps.1.1.0 there)).0
-
-  -- a modem stands in one row of holds
+  -- no row of holds clashes with another in its modem, so a modem stands in one row
   pub one_of_modem : (modem : List ℕ) (r s : Row) → Has (db.trees holds_tree) r → Has (db.trees holds_tree) s → column r 1 ≡ Text modem → column s 1 ≡ Text modem → s ≡ r
-  one_of_modem modem r s there also of_r of_s = one_row (db.trees holds_tree) by (1 ∷ []) r s there also (no_clash r there)
+  one_of_modem modem r s there also of_r of_s =
+      let keeps : Keeps Unique our_tables db.trees = subst (λ s. Keeps Unique s db.trees) has (sound.obeys.rules Unique) in
+      let alone = not-true _ (and_parts (not (clashes plain (1 ∷ []) (db.trees holds_tree) r)) _ (all_has _ (db.trees holds_tree) r keeps.1.1.0 there)).0 in
+      one_row (db.trees holds_tree) by (1 ∷ []) r s there also alone
       (ap (λ key. equal key.collation (column s 1) (column r 1) && true) first_key-plain
       ∙ ap₂ (λ a b. equal Binary a b && true) of_s of_r ∙ ap (λ b. b && true) (equal_texts modem modem ∙ (bytes_eq-Decides modem modem).1 refl))
 
@@ -461,17 +419,11 @@ null_apart : (t : List ℕ) → are_equal Null (Text t) ≡ false
 unfolding binary
 null_apart t = refl
 
--- no value of another class is
-class_apart : (v : Value) (t : List ℕ) → is_null v ≡ false → (class v ≡ 2 → ⊥) → is_eq (nat_cmp (class v) 2) ≡ false → are_equal v (Text t) ≡ false
-class_apart v t whole apart other = compared Eq v (Text t) whole refl ∙ ap is_eq (value_cmp-apart v (Text t) apart) ∙ other
-
--- only the text itself is
+-- nor is a value of another class, but only the text itself
 pub text_same : (v : Value) (t : List ℕ) → are_equal v (Text t) ≡ true → v ≡ Text t
 text_same Null t h = absurd (both_ways _ (null_apart t) h)
-text_same (Int n) t h = absurd (both_ways _ (class_apart (Int n) t refl (λ e. omega arith) refl) h)
-text_same (Real x) t h = absurd (both_ways _ (class_apart (Real x) t refl (λ e. omega arith) refl) h)
 text_same (Text s) t h = ap Text ((bytes_eq-Decides s t).0 (sym (equal_texts s t) ∙ h))
-text_same (Blob b) t h = absurd (both_ways _ (class_apart (Blob b) t refl (λ e. omega arith) refl) h)
+text_same other t h = absurd (both_ways _ (compared Eq other (Text t) refl refl ∙ ap is_eq (value_cmp-apart other (Text t) (λ e. omega arith))) h)
 
 module _ (modem : List ℕ) where
   abbrev pub modem_params : Row
@@ -480,10 +432,6 @@ module _ (modem : List ℕ) where
   -- the row that passes is that of the grant which the modem holds
   is_asked : (project : List Term) (r : Row) (g : Grant) → drop 1 r ≡ hold_columns g → passes holds_tree hold_tests project modem_params r ≡ bytes_eq g.modem modem
   is_asked project r g is = ap (passes holds_tree hold_tests project modem_params) (with_id r _ _ is) ∙ and-true (are_equal (Text g.modem) (Text modem)) ∙ equal_texts g.modem modem
-
-  -- the row of a hold is shown as its grant and job
-  shown_as : (r : Row) (g : Grant) → drop 1 r ≡ hold_columns g → show holds_tree hold_tests hold_project modem_params r ≡ hold_shown g
-  shown_as r g is = ap (show holds_tree hold_tests hold_project modem_params) (with_id r _ _ is)
 
   -- the row of a grant of this modem names it
   modem_of : (r : Row) (g : Grant) → drop 1 r ≡ hold_columns g → bytes_eq g.modem modem ≡ true → column r 1 ≡ Text modem
@@ -504,15 +452,10 @@ module _ (modem : List ℕ) where
         let held = has_found (λ (g : Grant). bytes_eq g.modem modem) (open_grants m) one.0 one.1 in
         let its = row_of hold_columns (old.now.trees holds_tree) (open_grants m) means.holds one.0 held.0 in
         let same = one_of_modem old.now means.schema means.sound means.ordered.holds modem its.0 shown.0 its.1 shown.1 (modem_of its.0 one.0 its.2 held.1) (modem_of shown.0 it.0 it.2 on) in
-        ap Some (shown.3 ∙ shown_as shown.0 one.0 (ap (drop 1) same ∙ its.2)) ∙ sym (ap (option_map hold_shown) one.1)
+        ap Some (shown.3 ∙ ap (show holds_tree hold_tests hold_project modem_params) (with_id shown.0 _ _ (ap (drop 1) same ∙ its.2)))
+        ∙ sym (ap (option_map hold_shown) one.1)
 
   module _ (old new : State) (db : Database) (ours : db.schema ≡ our_tables) (now : old.now ≡ db) where
-    -- whatever the rows say, where none is found no row has the modem
-    pub no_hold : FindsRow SELECT_HOLD.now modem_params old new None → ¬ HasHoldRow db modem
-    no_hold =
-        none_keyed SELECT_HOLD.now holds_tree hold_tests hold_project _ select_hold (λ trees. refl) modem_params old new db ours now
-        1 (Text modem) (λ r. refl) (equal_texts modem modem ∙ (bytes_eq-Decides modem modem).1 refl)
-
     -- the hold that is read of the row that is found stands in a row
     pub hold_stands : (row : Row) (h : Hold) → FindsRow SELECT_HOLD.now modem_params old new (Some row) → HasValues row 0 (held_shown h) → HoldStands db modem h
     hold_stands row h found has =
@@ -526,5 +469,7 @@ module _ {S : Type 0} (g : Ghosts S) (modem : List ℕ) (old new : Store S) wher
   hold_keys = record {
     found = hold_found modem (shown g old) (shown g new);
     lawful = λ m k means held. found_holds IsLawfulGrant (λ (one : Grant). bytes_eq one.modem modem) (open_grants m) held (all_kept IsLawfulGrant (λ (one : Grant). one.is_open) m.grants means.lawful.grants);
-    none = no_hold modem (shown g old) (shown g new);
+    none = λ db ours now.
+        none_keyed SELECT_HOLD.now holds_tree hold_tests hold_project _ select_hold (λ trees. refl) (modem_params modem) (shown g old) (shown g new) db ours
+        now 1 (Text modem) (λ r. refl) (equal_texts modem modem ∙ (bytes_eq-Decides modem modem).1 refl);
   }

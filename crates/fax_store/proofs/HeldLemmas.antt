@@ -1,13 +1,9 @@
 -- What the texts show by which a store counts what is held.
-use Rattle.std.proofs.Common.{◌≡◌, inl, inr, ◌<◌, ◌^◌, ◌+◌, ℕ, List, [], ◌∷◌, ◌++◌, map, filter, flat_map, drop, take, length, Bool, true, false, cond, ◌&&◌, Option, Some, codes, refl, sym, ap, ap₂, subst, ◌∙◌, arith, length-append}
+use Rattle.std.proofs.Common.{◌≡◌, inl, inr, ◌<◌, ◌^◌, ◌+◌, ℕ, List, [], ◌∷◌, ◌++◌, map, filter, flat_map, drop, take, length, Bool, true, false, cond, ◌&&◌, Option, Some, codes, refl, sym, ap, ap₂, subst, ◌∙◌, arith, length-append, ◌==◌, option_map, bytes_eq, IsPermutation}
 use Rattle.std.proofs.Math.Path.{fun_ext}
 use Rattle.std.proofs.lemmas.List.Sums.{count_by-le-length, length-filter}
 use Rattle.std.proofs.lemmas.List.{nil_from_length, length-take}
-use Rattle.std.specs.Prelude.{◌==◌}
 use Rattle.std.specs.List.{list_all}
-use Rattle.std.specs.Option.{option_map}
-use Rattle.std.specs.Str.{bytes_eq}
-use Rattle.std.specs.List.Sorted.{IsPermutation}
 use Rattle.std.proofs.lemmas.Bool.{eqb-true, and_parts, false_from_ne_true}
 use Rattle.std.proofs.lemmas.List.Elements.{recursion_from_All, filter-append}
 use Rattle.std.proofs.lemmas.List.Sorted.{IsPermutation-map, IsPermutation-sym, IsPermutation-trans, length_permutation}
@@ -18,7 +14,7 @@ use Rattle.sqlite.specs.Query.{IsAnswer, output, Output, or_nulls}
 use Rattle.sqlite.specs.State.{State, Shown}
 use Rattle.sqlite.specs.Tree.{IsTable}
 use Rattle.sqlite.specs.declared.types.Value.{Value}
-use Rattle.sqlite.specs.declared.types.Value.TheVariants.{Null, Int, Real, Text, Blob}
+use Rattle.sqlite.specs.declared.types.Value.TheVariants.{Null, Text}
 use Rattle.sqlite.proofs.Callers.{reads_as}
 use Rattle.sqlite_rules.specs.Lists.{Has}
 use Rattle.sqlite_rules.proofs.ProbeLemmas.{mapped_has}
@@ -82,10 +78,7 @@ lost_value v = is_true (binary (Is Binary) v Null)
 is_lost : (v : Value) → lost_value v ≡ is_null v
 unfolding binary value_cmp lib.Ieee.is_nan lib.Ieee.lt
 is_lost Null = refl
-is_lost (Int n) = refl
-is_lost (Real x) = refl
-is_lost (Text t) = refl
-is_lost (Blob b) = refl
+is_lost _ = refl
 
 -- what SQL finds equal to a value is not NULL
 not_lost : (a b : Value) → are_equal a b ≡ true → is_null a ≡ false

@@ -1,7 +1,5 @@
 -- What the texts on jobs read and write.
-use Rattle.std.proofs.Common.{◌≡◌, ℕ, zero, suc, pos, ◌+◌, ◌-◌, ◌≤◌, List, [], ◌∷◌, ◌++◌, map, arith, false, Option, Some, None, Err, drop, refl, sym, ap, ap₂, subst, ◌∙◌, ◌<◌, inl, inr, All, Bool, true, ◌&&◌, ◌||◌, unwrap_or, if◌then◌else◌}
-use Rattle.std.specs.Option.{option_map}
-use Rattle.std.specs.Prelude.{◌==◌, IsTrue, is_some, find, nat_le}
+use Rattle.std.proofs.Common.{◌≡◌, ℕ, zero, suc, pos, ◌+◌, ◌-◌, ◌≤◌, List, [], ◌∷◌, ◌++◌, map, arith, false, Option, Some, None, Err, drop, refl, sym, ap, ap₂, subst, ◌∙◌, ◌<◌, inl, inr, All, Bool, true, ◌&&◌, ◌||◌, unwrap_or, if◌then◌else◌, option_map, ◌==◌, IsTrue, is_some, find, nat_le, IsUtf8}
 use Rattle.std.specs.List.{range_with_len}
 use Rattle.std.proofs.lemmas.List.FromFn.{length-range_with_len}
 use Rattle.sqlite.specs.Effect.{Database}
@@ -14,7 +12,7 @@ use Rattle.sqlite.specs.Rowids.TheVariants.{Chosen}
 use Rattle.sqlite.proofs.Callers.{runs_as, reads_as}
 use Rattle.sqlite_rules.specs.Lists.{Has}
 use Rattle.sqlite_trees.specs.declared.store.Store.{Ghosts}
-use Rattle.fax_core.specs.Job.{Job, job_of, fields_of, pages_to, HasPages}
+use Rattle.fax_core.specs.Job.{Job, job_of, fields_of, pages_to}
 use Rattle.fax_core.specs.Ledger.{Ledger}
 use Rattle.fax_core.specs.Queue.{Queue, job_numbered, open_grants}
 use Rattle.fax_job.specs.Job.{IsLawful}
@@ -41,15 +39,14 @@ use Rattle.sqlite.specs.declared.error.Error.{Error}
 use Rattle.fax_store.proofs.FoundLemmas.{Keys, none_keyed, one_numbered}
 use Rattle.fax_tables.proofs.KeyLemmas.{found_holds, numbered_found, free_of, row_placed, all_placed, only_numbered, asked_is, not_asked}
 use Rattle.fax_tables.proofs.TablesLemmas.{AreRecords, row_of, parts_of, means_of, calls_as, calls_of, jobs_changed, by_rowid_put}
-use Rattle.fax_store.proofs.CountLemmas.{calls_placed, jobs_placed, calls_mapped, jobs_mapped}
+use Rattle.fax_store.proofs.CountLemmas.{calls_placed, jobs_placed, calls_mapped, jobs_mapped, unmoved}
 use Rattle.fax_tables.proofs.RowLemmas.{sent_low, change_params}
-use Rattle.fax_schema.proofs.WriteLemmas.{KeepsOthers, InsertsRow, unreferred, inserts}
+use Rattle.fax_schema.proofs.WriteLemmas.{KeepsOthers, unreferred, inserts}
 use Rattle.fax_schema.proofs.SelectLemmas.{passes, show, answers}
 use Rattle.fax_schema.proofs.StatementForms.{Selects}
 use Rattle.sqlite_sql.specs.Term.{Term}
 use Rattle.fax_schema.proofs.StatementTexts.{brief_names, brief_project, job_names, job_project, job_terms, job_tests, select_brief, select_job, insert_job, change_project, update_job, expired_tests, expired_project, expire_jobs, killtime_project, select_expired}
 use Rattle.std.proofs.Math.Bool.{and-true}
-use Rattle.std.specs.Str.{IsUtf8}
 use Rattle.std.proofs.lemmas.Bool.{and_parts, eqb-true, eq-eqb, cond_both, cases_Bool}
 use Rattle.std.proofs.lemmas.List.Elements.{All-from_recursion, All-map, recursion_from_All}
 use Rattle.sqlite_rules.proofs.ListLemmas.{all_from, all_has}
@@ -57,7 +54,7 @@ use Rattle.sqlite_rules.proofs.ProbeLemmas.{mapped_has}
 use Rattle.fax_core.specs.Ageing.{aged_job, expires, is_past}
 use Rattle.fax_value.specs.Status.{kill_time_expired}
 use Rattle.fax_job.specs.declared.job.Phase.{Phase}
-use Rattle.fax_job.specs.declared.job.Phase.TheVariants.{Held, Waiting, Granted, Done, Failed}
+use Rattle.fax_job.specs.declared.job.Phase.TheVariants.{Held, Waiting, Failed}
 use Rattle.fax_value.specs.Dial.{IsCanonical}
 use Rattle.fax_value.specs.JobTag.{IsJobTag}
 use Rattle.fax_value.specs.Name.{IsName}
@@ -137,12 +134,6 @@ range_split a (suc m) n =
     let count : suc m + n ≡ suc (m + n) = omega arith in
     ap (λ rest. a ∷ rest) (ap (λ x. range_with_len (a + 1) m ++ range_with_len x n) from ∙ range_split (a + 1) m n) ∙ sym (ap (range_with_len a) count)
 
--- the pages of a job made of a record are those sent and those behind them
-pub pages_of : (f : JobFields) → f.npages ≤ f.totpages → HasPages (job_of f)
-pages_of f low =
-    ap (λ from. pages_to f.npages ++ range_with_len from (f.totpages - f.npages)) (let e : f.npages + 1 ≡ 1 + f.npages = omega arith in e)
-    ∙ range_split 1 f.npages (f.totpages - f.npages) ∙ ap (range_with_len 1) (let e : f.npages + (f.totpages - f.npages) ≡ f.totpages = omega arith in e)
-
 -- the row of a job is stored as it is
 pub stored_job : (f : JobFields) → cast_row schema.jobs (job_row f) ≡ job_row f
 stored_job f =
@@ -152,17 +143,12 @@ stored_job f =
     (same_row (n _) (same_row (n _) (same_row (n _) (same_row (n _) (same_row (n _) (same_row (n _) refl))))))))))))))))))))
 
 module _ (old new : State) (m : Queue) (k : Ledger) (means : TablesMean old.now m k) (f : JobFields) where
-  -- the text that adds a job inserts its row
-  inserted : HasRun INSERT_JOB.now (job_shown f) old new → InsertsRow our_tables jobs_tree old new (job_row f)
-  inserted h =
-      let ran = runs_as INSERT_JOB.now (job_shown f) old new our_tables means.schema _ insert_job.is insert_job.plain h.0 h.1 in
-      inserts our_tables unreferred schema.jobs.name 0 schema.jobs.columns schema.jobs.key schema.jobs.primary schema.jobs.uniques schema.jobs.orders schema.jobs.checks 0 refl old new means.schema (job_shown f) _ h.0
-      job_terms 21 (job_row f) (job_row f) refl (ap (with_rowid Chosen (old.now.trees jobs_tree)) (stored_job f)) ran
-
-  -- the text that adds a lawful job puts it into the queue, and touches jobs alone
+  -- the text that adds a lawful job inserts its row: it puts the job into the queue, and touches jobs alone
   pub job_put : IsLawfulJob (job_of f) → HasRun INSERT_JOB.now (job_shown f) old new → TablesMean new.now (with_placed (job_of f) m) k × KeepsOthers our_tables jobs_tree old new
   job_put lawful h =
-      let done = inserted h in
+      let ran = runs_as INSERT_JOB.now (job_shown f) old new our_tables means.schema _ insert_job.is insert_job.plain h.0 h.1 in
+      let done = inserts our_tables unreferred schema.jobs.name 0 schema.jobs.columns schema.jobs.key schema.jobs.primary schema.jobs.uniques schema.jobs.orders schema.jobs.checks 0 refl old new means.schema (job_shown f) _ h.0
+      job_terms 21 (job_row f) (job_row f) refl (ap (with_rowid Chosen (old.now.trees jobs_tree)) (stored_job f)) ran in
       let row : row_of (job_of f) ≡ job_row f = ap job_row (fields_back f) in
       let free : is_taken (map row_of m.jobs) (row_of (job_of f)) ≡ false =
       subst (λ r. is_taken (map row_of m.jobs) r ≡ false) (sym row) (subst (λ rows. is_taken rows (job_row f) ≡ false) means.jobs (free_of (old.now.trees jobs_tree) (job_row f) done.fresh)) in
@@ -193,7 +179,10 @@ pub lawful_of_fields : (f : JobFields) → IsLawful f → IsFormed f → IsLawfu
 lawful_of_fields f limits formed = record {
   formed = subst IsFormed (sym (fields_back f)) formed;
   limits = subst IsLawful (sym (fields_back f)) limits;
-  pages = pages_of f (sent_low f limits);
+  pages = let low = sent_low f limits in
+      ap (λ from. pages_to f.npages ++ range_with_len from (f.totpages - f.npages)) (let e : f.npages + 1 ≡ 1 + f.npages = omega arith in e)
+      ∙ range_split 1 f.npages (f.totpages - f.npages)
+      ∙ ap (range_with_len 1) (let e : f.npages + (f.totpages - f.npages) ≡ f.totpages = omega arith in e);
 }
 
 -- what a function keeps of each element holds of each that it makes
@@ -229,19 +218,15 @@ module _ (f : JobFields) (lines : List Pair) where
   written : (x : Job) → x.number ≡ f.job → KeepsOrder x → cast_row schema.jobs (drop 1 (show jobs_tree job_tests change_project (change_params f) (row_of x))) ≡ job_row whole
   written x is same = rw (is, same.order.dial, same.order.totpages, same.extra) (stored_job whole)
 
-  -- a job that is put in place keeps the rowid
-  put_number : (x : Job) → rowid (row_of (put x)) ≡ rowid (row_of x)
-  put_number x = cond_both (x.number == f.job) (job_of whole) x (λ y. rowid (row_of y) ≡ rowid (row_of x))
-      (λ same. ap number (sym (eqb-true x.number f.job same))) (λ _. refl)
-
-  -- and its number
+  -- a job that is put in place keeps its number
   same_number : (x : Job) → (put x).number ≡ x.number
   same_number x = cond_both (x.number == f.job) (job_of whole) x (λ y. y.number ≡ x.number) (λ same. sym (eqb-true x.number f.job same)) (λ _. refl)
 
-  -- a lawful job stays lawful under a change of its form
-  change_lawful : IsFormedChange f → (x : Job) → KeepsOrder x → IsLawfulJob x → IsLawfulJob (job_of whole)
-  change_lawful lawful x same was = lawful_of_fields whole (ap₂ ◌&&◌ (and_parts _ _ lawful.limits).0
-      (subst (λ e. IsTrue (are_unknown e)) same.extra (and_parts _ _ was.limits).1)) (record {
+  -- each job stays lawful under a change of its form, whether it changes or not
+  put_lawful : IsFormedChange f → (x : Job) → (x.number ≡ f.job → KeepsOrder x) → IsLawfulJob x → IsLawfulJob (put x)
+  put_lawful lawful x keeps was = cond_both (x.number == f.job) (job_of whole) x IsLawfulJob (λ here.
+      let same = keeps (eqb-true x.number f.job here) in
+      lawful_of_fields whole (ap₂ ◌&&◌ (and_parts _ _ lawful.limits).0 (subst (λ e. IsTrue (are_unknown e)) same.extra (and_parts _ _ was.limits).1)) (record {
         dial = subst (IsText IsCanonical) same.order.dial was.formed.dial;
         modem = lawful.modem;
         jobtag = lawful.jobtag;
@@ -250,12 +235,7 @@ module _ (f : JobFields) (lines : List Pair) where
         tts = lawful.tts;
         killtime = lawful.killtime;
         priority = lawful.priority;
-      })
-
-  -- each job stays lawful, whether it changes or not
-  put_lawful : IsFormedChange f → (x : Job) → (x.number ≡ f.job → KeepsOrder x) → IsLawfulJob x → IsLawfulJob (put x)
-  put_lawful lawful x same was = cond_both (x.number == f.job) (job_of whole) x IsLawfulJob
-      (λ here. change_lawful lawful x (same (eqb-true x.number f.job here)) was) (λ _. was)
+      })) (λ _. was)
 
 module _ (f : JobFields) (old new : State) (m : Queue) (k : Ledger) (means : TablesMean old.now m k) where
   abbrev its_lines : List Pair
@@ -275,7 +255,7 @@ module _ (f : JobFields) (old new : State) (m : Queue) (k : Ledger) (means : Tab
       let is_number = asked_is row_of (λ (j : Job). j.number) (λ j. refl) f.job (passes jobs_tree job_tests change_project (change_params f)) (λ r. refl) in
       let is_other = not_asked row_of (λ (j : Job). j.number) (λ j. refl) f.job (passes jobs_tree job_tests change_project (change_params f)) (λ r. refl) in
       let done = updated schema.jobs.name 0 schema.jobs.columns schema.jobs.key schema.jobs.primary schema.jobs.uniques schema.jobs.orders schema.jobs.checks 0 refl old new means.schema refl means.ordered.jobs
-      job_tests change_project (change_params f) (λ r. refl) _ h.0 row_of placed m.jobs means.jobs (put_number f its_lines)
+      job_tests change_project (change_params f) (λ r. refl) _ h.0 row_of placed m.jobs means.jobs (λ x. ap number (same_number f its_lines x))
       (λ x has on. let is = is_number x on in written f its_lines x is (same x has is)
       ∙ rw (eq-eqb x.number f.job is) (sym (ap job_row (fields_back (whole f its_lines)))))
       (λ x has off. rw (is_other x off) refl)
@@ -340,11 +320,6 @@ module _ (phase : Phase) (t : ℕ) where
     pages = was.pages;
   }) (λ _. was)
 
-  -- where none expires, the jobs stay
-  unmoved : (xs : List Job) → ((x : Job) → Has xs x → expires_here x ≡ false) → map (expired_in phase t) xs ≡ xs
-  unmoved [] none = refl
-  unmoved (x ∷ xs) none = ap₂ ◌∷◌ (rw (none x (inl refl)) refl) (unmoved xs (λ y has. none y (inr has)))
-
   module _ (old new : State) (m : Queue) (k : Ledger) (means : TablesMean old.now m k) where
     -- where no row is shown, no job expires
     pub none_expired : (found : Option Row) → FindsRow SELECT_EXPIRED.now expired_params old new found → is_some found ≡ false → with_expired_in phase t m ≡ m
@@ -353,8 +328,9 @@ module _ (phase : Phase) (t : ℕ) where
         let shown = show jobs_tree expired_tests killtime_project expired_params in
         let rows = answers jobs_tree expired_tests killtime_project expired_params old.now (old.now.trees jobs_tree) refl [] h.0
         (reads_as SELECT_EXPIRED.now expired_params old new our_tables means.schema _ select_expired.command select_expired.plain select_expired.unlisted h.0 h.1) in
-        ap (λ jobs. record m { jobs = jobs }) (unmoved m.jobs (λ x has.
-        sym (expiring x) ∙ none_shown is_asked shown (old.now.trees jobs_tree) h.0 rows h.2 (row_of x) (subst (λ table. Has table (row_of x)) (sym means.jobs) (mapped_has row_of m.jobs x has))))
+        ap (λ jobs. record m { jobs = jobs }) (unmoved (expired_in phase t) m.jobs (λ x has.
+        rw (sym (expiring x) ∙ none_shown is_asked shown (old.now.trees jobs_tree) h.0 rows h.2 (row_of x)
+        (subst (λ table. Has table (row_of x)) (sym means.jobs) (mapped_has row_of m.jobs x has))) refl))
     none_expired (Some row) h e = absurd cc
 
     -- the text that expires jobs of a phase does so to each, and touches jobs alone
@@ -381,10 +357,7 @@ module _ (phase : Phase) (t : ℕ) where
 either : (phase : Phase) (past : Bool) → (expires phase && past) ≡ ((phase_number phase == 0 && past) || (phase_number phase == 1 && past))
 either Held true = refl
 either Held false = refl
-either Waiting past = refl
-either Granted past = refl
-either Done past = refl
-either Failed past = refl
+either _ past = refl
 
 -- expired while held and then while it waits, a job has aged by the moment
 expired_once : (t : ℕ) (j : Job) → expired_in Waiting t (expired_in Held t j) ≡ aged_job t j

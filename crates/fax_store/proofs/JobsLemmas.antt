@@ -1,19 +1,19 @@
 -- What the texts on all jobs read, in the one order in which their numbers don't fall, and those on the jobs that wait.
-use Rattle.std.proofs.Common.{◌≡◌, ◌<◌, ◌+◌, ℕ, pos, List, [], map, take, filter, true, false, nat_lt, get_or, refl, sym, ap, ap₂, subst, ◌∙◌, arith, ◌≤◌, suc, ◌∷◌, ◌++◌, Bool, not, zero, All, ◌&&◌, ◌||◌, Option, Some, None, unwrap_or}
-use Rattle.std.specs.Ordering.{is_lt, int_cmp, ordering_then, is_eq, is_gt}
-use Rattle.std.specs.declared.cmp.Ordering.TheVariants.{Less, Equal}
-use Rattle.std.specs.List.Sorted.{IsPermutation, IsSorted, IsNonDecreasingBy, IsSortedBy}
+use Rattle.std.proofs.Common.{◌≡◌, ◌<◌, ◌+◌, ℕ, pos, List, [], map, take, filter, true, nat_lt, get_or, refl, sym, ap, ap₂, subst, ◌∙◌, arith, ◌∷◌, ◌++◌, Bool, not, All, ◌&&◌, ◌||◌, Option, Some, None, unwrap_or, Ordering, Less, Equal, IsPermutation, IsSorted, IsSortedBy, ◌==◌, nat_le}
+use Rattle.std.specs.Ordering.{is_lt, int_cmp, nat_cmp, on, ordering_then, is_eq, is_gt}
 use Rattle.std.proofs.lemmas.Bool.Decides.{nat_tests}
-use Rattle.std.proofs.lemmas.List.{get_or-map}
-use Rattle.std.proofs.lemmas.List.Sorted.{IsNonDecreasingBy-from_all_adjacent, IsPermutation-map, length_permutation, All-permutation}
+use Rattle.std.proofs.lemmas.Cmp.{nat_cmp_total, on_total}
+use Rattle.std.proofs.Math.ListN.{get_or-map}
+use Rattle.sqlite_keyed.proofs.SortLemmas.{sorted_unique}
+use Rattle.std.proofs.lemmas.List.Sorted.{IsPermutation-map, All-permutation}
 use Rattle.sqlite.specs.Effect.{Database}
 use Rattle.sqlite.specs.Order.{Row, column}
 use Rattle.sqlite.specs.Query.{output_cmp, Output, Query}
 use Rattle.sqlite.specs.State.{State, Shown}
 use Rattle.sqlite.specs.Tree.{rowid, IsTable}
-use Rattle.sqlite.proofs.Callers.{reads_as, one_permutation}
+use Rattle.sqlite.proofs.Callers.{reads_as}
 use Rattle.sqlite_trees.specs.Tree.{IsAscending}
-use Rattle.sqlite_trees.proofs.ListLemmas.{map-map, filter_all, all_of, pull_back, ascending_from_map, ascending_weaker, all_weaker, ascending-filter, filter_none, IsPermutation-filter, filter-map, filter_same}
+use Rattle.sqlite_trees.proofs.ListLemmas.{map-map, filter_all, all_of, pull_back, ascending_from_map, ascending_weaker, filter-map, filter_same}
 use Rattle.sqlite_value.specs.Order.{value_cmp}
 use Rattle.sqlite_value.proofs.OrderLemmas.{value_cmp-Int}
 use Rattle.fax_core.specs.Job.{Job, fields_of}
@@ -28,85 +28,39 @@ use Rattle.sqlite_sql.specs.Term.{Term}
 use Rattle.fax_schema.proofs.SelectLemmas.{rows_by, passes, show, put_out, in_order}
 use Rattle.fax_schema.proofs.StatementForms.{SelectsBy}
 use Rattle.fax_tables.proofs.TablesLemmas.{row_of}
-use Rattle.fax_store.specs.Job.{brief_places, job_places, AreWaiting}
+use Rattle.fax_job.specs.declared.job.JobFields.{JobFields}
+use Rattle.fax_store.specs.Job.{AreWaiting, BriefsStand, JobsStand, brief_places, job_places}
 use Rattle.fax_schema.proofs.StatementTexts.{brief_names, brief_project, job_names, job_project, jobs_order, select_briefs, select_jobs, waiting_tests, waiting_order, select_waiting}
-use Rattle.std.specs.List.{AllByRecursion}
-use Rattle.std.proofs.lemmas.List.Elements.{recursion_from_All}
 use Rattle.std.proofs.Math.Bool.{and-true}
-use Rattle.std.specs.Prelude.{◌==◌, nat_le, nat_lt, slice_index_or}
 use Rattle.fax_core.specs.Ageing.{is_past}
 use Rattle.fax_core.specs.Best.{better}
 use Rattle.fax_core.specs.State.{is_due, is_waiting}
 use Rattle.fax_job.specs.declared.job.Phase.{Phase}
 use Rattle.fax_job.specs.declared.job.Phase.TheVariants.{Held, Waiting, Granted, Done, Failed}
 use Rattle.fax_tables.specs.Row.{number, phase_number}
+use Rattle.fax_store.proofs.CountLemmas.{lower}
 use Rattle.fax_schema.proofs.ColumnLemmas.{all_kept}
 use Rattle.fax_schema.proofs.CompareLemmas.{are_equal, equal_numbers, at_most, or_else}
 
-module _ {X : Type 0} (num : X → ℕ) where
-  abbrev pub Below : X → X → Type 0
-  Below a b = num a < num b
+abbrev pub Below : Job → Job → Type 0
+Below a b = a.number < b.number
 
-  abbrev pub AtMost : X → X → Type 0
-  AtMost a b = num a ≤ num b
-
-  -- each is at most every later one
-  rises : (xs : List X) → IsNonDecreasingBy num xs → IsAscending AtMost xs
-  rises [] up = tt
-  rises (x ∷ xs) up =
-      (recursion_from_All (AtMost x) xs (λ i d low. up 0 (suc i) d (omega arith) (omega arith)), rises xs (λ i j d le low. up (suc i) (suc j) d (omega arith) (omega arith)))
-
-  abbrev is_above : X → X → Bool
-  is_above x z = nat_lt (num x) (num z)
-
-  -- one is above another where its number is greater
-  above : (x z : X) → num x < num z → is_above x z ≡ true
-  above x z low = grind (arith, nat_tests)
-
-  -- what is at least as great as one above is above
-  still_above : (x y z : X) → is_above x y ≡ true → num y ≤ num z → is_above x z ≡ true
-  still_above x y z high le = grind (arith, nat_tests)
-
-  -- of a list all above, nothing is left that isn't
-  not_above : (x : X) (ys : List X) → AllByRecursion (λ z. is_above x z ≡ true) ys → filter (λ z. not (is_above x z)) ys ≡ []
-  not_above x ys high = filter_none (λ z. not (is_above x z)) ys (all_weaker (λ z. is_above x z ≡ true) (λ z. not (is_above x z) ≡ false) (λ z h. ap not h) ys high)
-
-  -- what is not above x comes first, and then what is
-  split : (x : X) (ys : List X) → IsAscending AtMost ys → ys ≡ filter (λ z. not (is_above x z)) ys ++ filter (is_above x) ys
-  split x [] up = refl
-  split x (y ∷ ys) up = by (is_above x y) refl (split x ys up.1)
-    where
-      by : (b : Bool) → is_above x y ≡ b → ys ≡ filter (λ z. not (is_above x z)) ys ++ filter (is_above x) ys → y ∷ ys ≡ filter (λ z. not (is_above x z)) (y ∷ ys) ++ filter (is_above x) (y ∷ ys)
-      by false e more = rw e (ap (λ l. y ∷ l) more)
-      by true e more =
-          let high = all_weaker (AtMost y) (λ z. is_above x z ≡ true) (λ z le. still_above x y z e le) ys up.0 in
-          rw (e, not_above x ys high, filter_all (is_above x) ys high) refl
-
-  -- a list that ascends has one order in which each is at most every later one
-  only_rising : (xs ys : List X) → IsAscending Below xs → IsPermutation xs ys → IsAscending AtMost ys → ys ≡ xs
-  only_rising [] [] rise same up = refl
-  only_rising [] (y ∷ ys) rise same up = absurd (omega (arith, length_permutation [] (y ∷ ys) same))
-  only_rising (x ∷ xs) ys rise same up =
-      let here : is_above x x ≡ false = grind (arith, nat_tests) in
-      let high = all_weaker (Below x) (λ z. is_above x z ≡ true) (above x) xs rise.0 in
-      let first : filter (λ z. not (is_above x z)) (x ∷ xs) ≡ x ∷ [] = rw (here, not_above x xs high) refl in
-      let later : filter (is_above x) (x ∷ xs) ≡ xs = rw (here, filter_all (is_above x) xs high) refl in
-      let low = filter (λ z. not (is_above x z)) ys in
-      let rest = filter (is_above x) ys in
-      let head = one_permutation x low (subst (λ l. IsPermutation l low) first (IsPermutation-filter (λ z. not (is_above x z)) (x ∷ xs) ys same)) in
-      let tail = only_rising xs rest rise.1 (subst (λ l. IsPermutation l rest) later (IsPermutation-filter (is_above x) (x ∷ xs) ys same)) (ascending-filter AtMost (is_above x) ys up) in
-      split x ys up ∙ ap₂ ◌++◌ head tail
-
-  -- the one order
-  pub only_order : (xs ys : List X) → IsAscending Below xs → IsPermutation xs ys → IsNonDecreasingBy num ys → ys ≡ xs
-  only_order xs ys rise same up = only_rising xs ys rise same (rises ys up)
-
-abbrev pub number_of : Job → ℕ
-number_of j = j.number
+abbrev by_number : Job → Job → Ordering
+by_number = on (λ (j : Job). j.number) nat_cmp
 
 -- numbers compared as SQL's integers are less as they are
-by_number : (n k : ℕ) → is_lt (ordering_then (int_cmp (pos n) (pos k)) Equal) ≡ nat_lt n k
-by_number n k = grind (arith, nat_tests)
+less_number : (n k : ℕ) → is_lt (ordering_then (int_cmp (pos n) (pos k)) Equal) ≡ is_lt (nat_cmp n k)
+less_number n k = grind (arith, nat_tests)
+
+rising : (n k : ℕ) → n < k → nat_cmp n k ≡ Less
+rising n k low = grind (arith, nat_tests)
+
+-- what is shown in order is itself in order, where the two orders are the same
+in_order_of : {X : Type 0} (cmp : Output → Output → Ordering) (out : X → Output) (less : X → X → Bool)
+    → ((a b : X) → is_lt (cmp (out a) (out b)) ≡ less a b) → (xs : List X) → IsSorted cmp (map out xs) → IsSortedBy less xs
+in_order_of cmp out less same xs sorted i d from low =
+    sym (same (get_or xs (i + 1) d) (get_or xs i d)) ∙ sym (ap₂ (λ a b. is_lt (cmp a b)) (get_or-map out xs (i + 1) d) (get_or-map out xs i d))
+    ∙ sorted i (out d) from (subst (λ n. i + 1 < n) (sym (length_map out xs)) low)
 
 module _ (project : List Term) where
   -- what a job is sorted by, and what is shown of it
@@ -114,28 +68,14 @@ module _ (project : List Term) where
   out_of j = put_out jobs_tree [] project [] jobs_order (row_of j)
 
   -- the order of the text is that of the jobs' numbers
-  same_as_numbers : (a b : Job) → is_lt (output_cmp (rows_by jobs_tree [] project jobs_order) (out_of a) (out_of b)) ≡ nat_lt a.number b.number
-  same_as_numbers a b = ap is_lt (ap (λ o. ordering_then o Equal) (value_cmp-Int (pos a.number) (pos b.number))) ∙ by_number a.number b.number
-
-  -- jobs that are shown in order don't fall
-  in_numbers : (jobs : List Job) → IsSorted (output_cmp (rows_by jobs_tree [] project jobs_order)) (map out_of jobs) → IsNonDecreasingBy number_of jobs
-  in_numbers jobs sorted = IsNonDecreasingBy-from_all_adjacent number_of jobs (λ i d low.
-      let by = λ (a b : Output). is_lt (output_cmp (rows_by jobs_tree [] project jobs_order) a b) in
-      let first = get_or jobs i d in
-      let next = get_or jobs (i + 1) d in
-      let apart : nat_lt next.number first.number ≡ false =
-      sym (same_as_numbers next first) ∙ sym (ap₂ by (get_or-map out_of jobs (i + 1) d (out_of d) low) (get_or-map out_of jobs i d (out_of d) (omega arith)))
-      ∙ sorted i (out_of d) (omega arith) (omega (arith, length_map out_of jobs)) in
-      grind (arith, nat_tests))
-
--- by rowid, one job stands before another only where its number is less
-below : (a b : Job) → value_cmp (rowid (row_of a)) (rowid (row_of b)) ≡ Less → a.number < b.number
-below a b less = let e : int_cmp (pos a.number) (pos b.number) ≡ Less = sym (value_cmp-Int (pos a.number) (pos b.number)) ∙ less in grind (arith, nat_tests)
+  same_as_numbers : (a b : Job) → is_lt (output_cmp (rows_by jobs_tree [] project jobs_order) (out_of a) (out_of b)) ≡ is_lt (by_number a b)
+  same_as_numbers a b = ap is_lt (ap (λ o. ordering_then o Equal) (value_cmp-Int (pos a.number) (pos b.number))) ∙ less_number a.number b.number
 
 -- the rows of a table stand by number
-pub ascend : (jobs : List Job) → IsTable (map row_of jobs) → IsAscending (Below number_of) jobs
+pub ascend : (jobs : List Job) → IsTable (map row_of jobs) → IsAscending Below jobs
 ascend jobs rise =
-    ascending_weaker (λ a b. value_cmp (rowid (row_of a)) (rowid (row_of b)) ≡ Less) (Below number_of) below jobs (ascending_from_map (λ a b. value_cmp (rowid a) (rowid b) ≡ Less) row_of jobs rise)
+    ascending_weaker (λ a b. value_cmp (rowid (row_of a)) (rowid (row_of b)) ≡ Less) Below (λ a b. lower a.number b.number) jobs
+    (ascending_from_map (λ a b. value_cmp (rowid a) (rowid b) ≡ Less) row_of jobs rise)
 
 module _ (old new : State) (m : Queue) (k : Ledger) (means : TablesMean old.now m k) (sql : List ℕ) (project : List Term) (names : List (List ℕ)) (selects : SelectsBy sql jobs_tree [] project jobs_order names) where
   abbrev of : Job → Row
@@ -153,7 +93,10 @@ module _ (old new : State) (m : Queue) (k : Ledger) (means : TablesMean old.now 
       let back = pull_back row_of (filter is_asked table) shown.0 shown.1 m.jobs all in
       let jobs = back.0 in
       let sorted : IsSorted (output_cmp query) (map (out_of project) jobs) = subst (IsSorted (output_cmp query)) (ap (map (put_out jobs_tree [] project [] jobs_order)) back.2 ∙ map-map _ _ jobs) shown.3 in
-      let same = only_order number_of m.jobs jobs (ascend m.jobs (subst IsTable means.jobs means.ordered.jobs.rise)) back.1 (in_numbers project jobs sorted) in
+      let up = ascending_weaker Below (λ a b. by_number a b ≡ Less) (λ a b. rising a.number b.number) m.jobs
+      (ascend m.jobs (subst IsTable means.jobs means.ordered.jobs.rise)) in
+      let same = sorted_unique by_number (on_total (λ (j : Job). j.number) nat_cmp_total) m.jobs jobs up back.1
+      (in_order_of (output_cmp query) (out_of project) (λ a b. is_lt (by_number a b)) (same_as_numbers project) jobs sorted) in
       shown.2 ∙ ap (map (show jobs_tree [] project [])) back.2 ∙ map-map _ _ jobs ∙ ap (map of) same
 
 module _ (old new : State) (m : Queue) (k : Ledger) (means : TablesMean old.now m k) (rows : List Row) where
@@ -182,12 +125,18 @@ module _ (old new : State) (db : Database) (ours : db.schema ≡ our_tables) (no
       subst (λ (d : Database). IsPermutation (map of (d.trees jobs_tree)) (map (take n) rows)) now (subst (IsPermutation (map of table)) (sym told) same)
 
   -- so does the text on all jobs
-  pub jobs_shown : (rows : List Row) → Shown SELECT_JOBS.now [] old new rows → IsPermutation (map (λ row. map (column row) job_places) (db.trees jobs_tree)) (map (take 20) rows)
-  jobs_shown = each_shown SELECT_JOBS.now job_project job_names select_jobs 20 (λ rs. refl)
+  pub jobs_shown : (rows : List Row) → Shown SELECT_JOBS.now [] old new rows → (found : List JobFields)
+      → map (take 20) rows ≡ map job_shown found → JobsStand db found
+  jobs_shown rows h found is =
+      subst (IsPermutation (map (λ row. map (column row) job_places) (db.trees jobs_tree))) is
+      (each_shown SELECT_JOBS.now job_project job_names select_jobs 20 (λ rs. refl) rows h)
 
   -- and the text on all jobs in brief
-  pub briefs_shown : (rows : List Row) → Shown SELECT_BRIEFS.now [] old new rows → IsPermutation (map (λ row. map (column row) brief_places) (db.trees jobs_tree)) (map (take 19) rows)
-  briefs_shown = each_shown SELECT_BRIEFS.now brief_project brief_names select_briefs 19 (λ rs. refl)
+  pub briefs_shown : (rows : List Row) → Shown SELECT_BRIEFS.now [] old new rows → (found : List JobFields)
+      → map (take 19) rows ≡ map brief_shown found → BriefsStand db found
+  briefs_shown rows h found is =
+      subst (IsPermutation (map (λ row. map (column row) brief_places) (db.trees jobs_tree))) is
+      (each_shown SELECT_BRIEFS.now brief_project brief_names select_briefs 19 (λ rs. refl) rows h)
 
 -- ---- which jobs
 
@@ -212,12 +161,6 @@ turned a b c d e = grind arith
 by_numbers : (p q s u n k : ℕ) → is_lt (ordering_then (int_cmp (pos p) (pos q)) (ordering_then (int_cmp (pos s) (pos u)) (ordering_then (int_cmp (pos n) (pos k)) Equal)))
     ≡ (nat_lt p q || ((p == q) && (nat_lt s u || ((s == u) && nat_lt n k))))
 by_numbers p q s u n k = grind (arith, nat_tests)
-
--- what stands in a place of a mapped list is mapped from what stood there
-index_map : {A B : Type 0} (f : A → B) (xs : List A) (i : ℕ) (d : A) → slice_index_or (map f xs) i (f d) ≡ f (slice_index_or xs i d)
-index_map f [] i d = refl
-index_map f (x ∷ xs) zero d = refl
-index_map f (x ∷ xs) (suc i) d = index_map f xs i d
 
 -- a text whose first parameter is the moment, with these tests behind those of a job that waits
 module _ (t : ℕ) (more : Row) (tests project : List Term) where
@@ -273,10 +216,7 @@ module _ (t : ℕ) (more : Row) (tests project : List Term) where
           jobs,
           ap (map shown_of) back.2 ∙ map-map _ _ jobs,
           back.1,
-          λ i d from low.
-              sym (same_order (slice_index_or jobs (i + 1) d) (slice_index_or jobs i d))
-              ∙ sym (ap₂ (λ a b. is_lt (output_cmp query a b)) (index_map put jobs (i + 1) d) (index_map put jobs i d))
-              ∙ sorted i (put d) from (subst (λ n. i + 1 < n) (sym (length_map put jobs)) low),
+          in_order_of (output_cmp query) put better same_order jobs sorted,
         )
 
 module _ (t : ℕ) (old new : State) (m : Queue) (k : Ledger) (means : TablesMean old.now m k) where

@@ -1,14 +1,10 @@
 -- What the texts on the kept replies read and write. A request number of a client has one at most, and a look-up finds it.
-use Rattle.std.proofs.Common.{◌≡◌, inl, inr, ℕ, eqb, List, [], ◌∷◌, drop, Bool, true, false, not, ◌&&◌, Some, None, refl, sym, ap, ap₂, subst, ◌∙◌, ℤ, ◌++◌, All, Option, Err, MatchOption}
-use Rattle.std.specs.Prelude.{find}
+use Rattle.std.proofs.Common.{◌≡◌, inl, inr, ℕ, eqb, List, [], ◌∷◌, drop, Bool, true, false, not, ◌&&◌, Some, None, refl, sym, ap, ap₂, subst, ◌∙◌, ℤ, ◌++◌, All, Option, Err, MatchOption, find, bytes_eq, Ordering, Less, Equal, Greater}
 use Rattle.sqlite_trees.proofs.ListLemmas.{IsPermutation-same}
 use Rattle.fax_schema.proofs.ColumnLemmas.{row_of, record_of}
 use Rattle.fax_store.proofs.MeaningLemmas.{one_entry}
 use Rattle.std.specs.Ordering.{is_ne}
-use Rattle.std.specs.Str.{bytes_eq}
 use Rattle.std.specs.Cmp.Lexicographic.{bytes_decides}
-use Rattle.std.specs.declared.cmp.Ordering.{Ordering}
-use Rattle.std.specs.declared.cmp.Ordering.TheVariants.{Less, Equal, Greater}
 use Rattle.std.proofs.lemmas.Bool.{and_parts, and_from, both_ways, cases_Bool, eqb-true, eq-eqb, not-true, false_from_ne_true}
 use Rattle.std.proofs.lemmas.Slice.Eq.{bytes_eq-Decides}
 use Rattle.sqlite.specs.Collation.TheVariants.{Binary}
@@ -51,7 +47,7 @@ use Rattle.sqlite.specs.declared.error.Error.{Error}
 use Rattle.fax_schema.proofs.SelectLemmas.{passes, show}
 use Rattle.fax_store.proofs.FoundLemmas.{none_passes, row_passes, with_id}
 use Rattle.fax_schema.proofs.StatementTexts.{reply_tests, reply_project, reply_terms, select_reply, insert_reply}
-use Rattle.fax_schema.proofs.WriteLemmas.{KeepsOthers, InsertsRow, unreferred, inserts}
+use Rattle.fax_schema.proofs.WriteLemmas.{KeepsOthers, unreferred, inserts}
 use Rattle.fax_tables.proofs.TablesLemmas.{replies, parts_of, means_of, calls_of, replies_changed, one_more}
 use Rattle.sqlite.specs.Cast.{cast_row}
 use Rattle.sqlite.specs.Edit.{with_rowid, next_rowid}
@@ -82,20 +78,17 @@ module _ (rows : List Row) (by : IsByRowid rows) (places : List ℕ) (r s : Row)
 -- ---- a number of a client stands in one row
 
 module _ (db : Database) (has : db.schema ≡ our_tables) (sound : IsDatabase db) (by : IsByRowid (db.trees replies_tree)) where
-  -- no row of replies clashes with another in client and number
-  no_clash : (r : Row) → Has (db.trees replies_tree) r → clashes plain (1 ∷ 2 ∷ []) (db.trees replies_tree) r ≡ false
-  no_clash r there =
-      let keeps : Keeps Unique our_tables db.trees = subst (λ s. Keeps Unique s db.trees) has (sound.obeys.rules Unique) in
-      not-true _ (and_parts (not (clashes plain (1 ∷ 2 ∷ []) (db.trees replies_tree) r)) _ (all_has _ (db.trees replies_tree) r keeps.1.1.1.1.0 there)).0
-
-  -- a client's number stands in one row
+  -- no row of replies clashes with another in client and number, so a client's number stands in one row
   pub one_of_key : (client : List ℕ) (n : ℕ) (r s : Row) → Has (db.trees replies_tree) r → Has (db.trees replies_tree) s
       → column r 1 ≡ Text client → column s 1 ≡ Text client → column r 2 ≡ number n → column s 2 ≡ number n → s ≡ r
   one_of_key client n r s there also client_r client_s number_r number_s =
       let clients : equal Binary (column s 1) (column r 1) ≡ true = ap₂ (equal Binary) client_s client_r ∙ equal_texts client client
       ∙ (bytes_eq-Decides client client).1 refl in
       let numbers : equal Binary (column s 2) (column r 2) ≡ true = ap₂ (equal Binary) number_s number_r ∙ number_same n in
-      one_row (db.trees replies_tree) by (1 ∷ 2 ∷ []) r s there also (no_clash r there)
+      let keeps : Keeps Unique our_tables db.trees = subst (λ s. Keeps Unique s db.trees) has (sound.obeys.rules Unique) in
+      let kept = all_has _ (db.trees replies_tree) r keeps.1.1.1.1.0 there in
+      let alone = not-true _ (and_parts (not (clashes plain (1 ∷ 2 ∷ []) (db.trees replies_tree) r)) _ kept).0 in
+      one_row (db.trees replies_tree) by (1 ∷ 2 ∷ []) r s there also alone
       (ap (λ key. equal key.collation (column s 1) (column r 1) && (equal key.collation (column s 2) (column r 2) && true)) first_key-plain
       ∙ ap₂ (λ a b. a && (b && true)) clients numbers)
 
@@ -132,10 +125,6 @@ find_some q (y ∷ ys) x has on = elim (cases_Bool (q y)) [
 abbrev is_of : List ℕ → ℕ → Entry → Bool
 is_of client n e = bytes_eq e.client client && eqb e.number n
 
--- an entry of the client and number passes the test for it
-of_entry : (client : List ℕ) (n : ℕ) (e : Entry) → IsOf client n e → is_of client n e ≡ true
-of_entry client n e of = and_from (bytes_eq e.client client) (eqb e.number n) ((bytes_decides e.client client).1 of.client_is) (eq-eqb e.number n of.number_is)
-
 -- an entry that passes it is of the client and number
 entry_of : (client : List ℕ) (n : ℕ) (e : Entry) → is_of client n e ≡ true → IsOf client n e
 entry_of client n e is = let parts = and_parts (bytes_eq e.client client) (eqb e.number n) is in record { client_is = (bytes_decides e.client client).0 parts.0; number_is = eqb-true e.number n parts.1 }
@@ -147,7 +136,8 @@ none_kept client n k off = find_none (is_of client n) k (λ e has. false_from_ne
 -- where an entry is of them, and each is kept once, it is found
 pub one_kept : (client : List ℕ) (n : ℕ) (k : List Entry) (e : Entry) → AreKeptOnce k → Has k e → IsOf client n e → kept_for client n k ≡ Some e
 one_kept client n k e once has of =
-    let it = find_some (is_of client n) k e has (of_entry client n e of) in
+    let it = find_some (is_of client n) k e has
+    (and_from (bytes_eq e.client client) (eqb e.number n) ((bytes_decides e.client client).1 of.client_is) (eq-eqb e.number n of.number_is)) in
     let found = has_found (is_of client n) k it.0 it.1 in
     it.1 ∙ ap Some (once client n it.0 e found.0 has (entry_of client n it.0 found.1) of)
 
@@ -158,17 +148,6 @@ module _ (client : List ℕ) (n : ℕ) where
   abbrev is_asked : Row → Bool
   is_asked r = passes replies_tree reply_tests reply_project params r
 
-  -- a row that passes is that of the entry asked for, and shows it
-  shows_entry : (r : Row) (e : Entry) → drop 1 r ≡ entry_columns e → is_asked r ≡ true → IsOf client n e × (show replies_tree reply_tests reply_project params r ≡ entry_shown e)
-  shows_entry r e h p =
-      let is = with_id r _ _ h in
-      let q : (are_equal (Text e.client) (Text client) && (are_equal (number e.number) (number n) && true)) ≡ true = sym (ap is_asked is) ∙ p in
-      let both = and_parts _ _ q in
-      let more = and_parts _ _ both.1 in (
-        record { client_is = (bytes_eq-Decides e.client client).0 (sym (equal_texts e.client client) ∙ both.0); number_is = same_number e.number n more.0 },
-        ap (show replies_tree reply_tests reply_project params) is,
-      )
-
   -- a row of the client and the number passes, whatever stands beside them
   key_passes : (id said status body : Value) → is_asked (id ∷ Text client ∷ number n ∷ said ∷ status ∷ body ∷ []) ≡ true
   key_passes id said status body =
@@ -176,23 +155,27 @@ module _ (client : List ℕ) (n : ℕ) where
       let numbers : are_equal (number n) (number n) ≡ true = number_same n in
       rw (texts, numbers) refl
 
-  -- so does that of the entry
-  asked_for : (r : Row) (e : Entry) → drop 1 r ≡ entry_columns e → IsOf client n e → is_asked r ≡ true
-  asked_for r e h of = ap is_asked (with_id r _ _ h) ∙ rw (of.client_is, of.number_is) (key_passes (column r 0) (Blob e.said) (number e.status) (Blob e.body))
-
   module _ (old new : State) (m : Queue) (k : Ledger) (means : TablesMean old.now m k) where
     -- what the text on a reply finds is an entry of the client and number; where it finds nothing, there is none
     pub reply_found : (found : Option Row) → FindsRow SELECT_REPLY.now params old new found
         → MatchOption found ((e : Entry) → Has k.replies e → ¬ IsOf client n e) (λ row. (e : Entry) × Has k.replies e × IsOf client n e × (row ≡ entry_shown e))
     reply_found None h = λ e has of.
         let it = row_of entry_columns (old.now.trees replies_tree) k.replies (IsPermutation-same _ _ (sym means.replies)) e has in
-        both_ways _ (none_passes SELECT_REPLY.now replies_tree reply_tests reply_project _ select_reply (λ trees. refl) params old new old.now means.schema refl h it.0 it.1) (asked_for it.0 e it.2 of)
+        both_ways _
+        (none_passes SELECT_REPLY.now replies_tree reply_tests reply_project _ select_reply (λ trees. refl) params old new old.now means.schema refl h it.0 it.1)
+        (ap is_asked (with_id it.0 _ _ it.2) ∙ rw (of.client_is, of.number_is) (key_passes (column it.0 0) (Blob e.said) (number e.status) (Blob e.body)))
     reply_found (Some row) h =
         let shown = row_passes SELECT_REPLY.now replies_tree reply_tests reply_project _ select_reply (λ trees. refl) params old new old.now means.schema refl
         row h in
         let it = record_of entry_columns (old.now.trees replies_tree) k.replies (IsPermutation-same _ _ (sym means.replies)) shown.0 shown.1 in
-        let of = shows_entry shown.0 it.0 it.2 shown.2 in
-        (it.0, it.1, of.0, shown.3 ∙ of.1)
+        let is = with_id shown.0 _ _ it.2 in
+        let q : (are_equal (Text it.0.client) (Text client) && (are_equal (number it.0.number) (number n) && true)) ≡ true = sym (ap is_asked is) ∙ shown.2 in
+        let both = and_parts _ _ q in
+        let of : IsOf client n it.0 = record {
+          client_is = (bytes_eq-Decides it.0.client client).0 (sym (equal_texts it.0.client client) ∙ both.0);
+          number_is = same_number it.0.number n (and_parts _ _ both.1).0;
+        } in
+        (it.0, it.1, of, shown.3 ∙ ap (show replies_tree reply_tests reply_project params) is)
 
   -- so where none is found there is no such row
   pub none_found : (old new : State) (db : Database) → db.schema ≡ our_tables → old.now ≡ db → FindsRow SELECT_REPLY.now params old new None → ¬ HasReply db client n
@@ -214,17 +197,12 @@ module _ (old new : State) (m : Queue) (k : Ledger) (means : TablesMean old.now 
   abbrev new_reply : Row
   new_reply = Int (next_rowid (old.now.trees replies_tree)) ∷ entry_columns e
 
-  -- the text that keeps a reply inserts its row, with the next rowid
-  inserted : HasRun INSERT_REPLY.now reply_params old new → InsertsRow our_tables replies_tree old new new_reply
-  inserted h =
-      let ran = runs_as INSERT_REPLY.now reply_params old new our_tables means.schema _ insert_reply.is insert_reply.plain h.0 h.1 in
-      inserts our_tables unreferred schema.replies.name 8 schema.replies.columns schema.replies.key schema.replies.primary schema.replies.uniques schema.replies.orders schema.replies.checks 4 refl old new means.schema reply_params _ h.0
-      reply_terms 6 (Null ∷ entry_columns e) new_reply refl (ap (with_rowid Chosen (old.now.trees replies_tree)) (stored_reply e)) ran
-
-  -- the text that keeps a lawful reply adds it, and touches replies alone
+  -- the text that keeps a lawful reply inserts its row, with the next rowid: it adds the reply, and touches replies alone
   pub reply_kept : IsLawfulEntry e → HasRun INSERT_REPLY.now reply_params old new → TablesMean new.now m (with_reply e k) × KeepsOthers our_tables replies_tree old new
   reply_kept lawful h =
-      let done = inserted h in
+      let ran = runs_as INSERT_REPLY.now reply_params old new our_tables means.schema _ insert_reply.is insert_reply.plain h.0 h.1 in
+      let done = inserts our_tables unreferred schema.replies.name 8 schema.replies.columns schema.replies.key schema.replies.primary schema.replies.uniques schema.replies.orders schema.replies.checks 4 refl old new means.schema reply_params _ h.0
+      reply_terms 6 (Null ∷ entry_columns e) new_reply refl (ap (with_rowid Chosen (old.now.trees replies_tree)) (stored_reply e)) ran in
       let was = parts_of old.now m k means in
       (means_of new.now m (with_reply e k) means.held (replies_changed old new m (open_grants m) (calls_of m) k was done.keeps (k.replies ++ e ∷ []) (one_more entry_columns IsLawfulEntry e k.replies (old.now.trees replies_tree) (new.now.trees replies_tree) done.rows lawful (was.says replies))), done.keeps)
 

@@ -2,6 +2,7 @@ pub mod ControlLemmas
 pub mod StoreLemmas
 pub mod CountLemmas
 pub mod StatementLemmas
+pub mod TextLemmas
 pub mod ShownLemmas
 pub mod StopLemmas
 pub mod MetaLemmas

@@ -9,7 +9,6 @@ use Rattle.sqlite.specs.declared.types.Value.{Value}
 use Rattle.sqlite.specs.declared.types.Value.TheVariants.{Blob, Int, Text}
 use Rattle.fax_job.specs.Job.{is_lawful_killtime}
 use Rattle.fax_value.specs.Name.{IsName}
-use Rattle.fax_job.specs.Pair.{Pair, ArePairs}
 use Rattle.fax_job.specs.Spelling.{printed}
 use Rattle.fax_job.specs.declared.job.Call.{Call}
 use Rattle.fax_job.specs.declared.job.Call.TheVariants.{Connected, Busy, NoAnswer, NoCarrier, Other}
@@ -59,18 +58,14 @@ phase_at n = if n == 0 then Held else if n == 1 then Waiting else if n == 2 then
 
 phase_back : (phase : Phase) → phase_at (phase_number phase) ≡ phase
 phase_back Held = refl
-phase_back Waiting = refl
-phase_back Granted = refl
-phase_back Done = refl
-phase_back Failed = refl
+phase_back _ = refl
 
 abbrev wish_at : ℕ → Wish
 wish_at n = if n == 0 then Go else if n == 1 then Hold else Kill
 
 wish_back : (wish : Wish) → wish_at (wish_number wish) ≡ wish
 wish_back Go = refl
-wish_back Hold = refl
-wish_back Kill = refl
+wish_back _ = refl
 
 abbrev call_at : ℕ → Option Call
 call_at n = if n == 0 then None else if n == 1 then Some Connected else if n == 2 then Some Busy else if n == 3 then Some NoAnswer else if n == 4 then Some NoCarrier else Some Other
@@ -78,10 +73,7 @@ call_at n = if n == 0 then None else if n == 1 then Some Connected else if n == 
 call_back : (call : Option Call) → call_at (call_number call) ≡ call
 call_back None = refl
 call_back (Some Connected) = refl
-call_back (Some Busy) = refl
-call_back (Some NoAnswer) = refl
-call_back (Some NoCarrier) = refl
-call_back (Some Other) = refl
+call_back (Some _) = refl
 
 -- a number stands for one of them
 one_of : {X : Type 0} (number : X → ℕ) (at : ℕ → X) → ((x : X) → at (number x) ≡ x) → (x y : X) → number x ≡ number y → x ≡ y
@@ -94,10 +86,6 @@ one_killtime None (Some t) lawful other is = absurd (let no = rw (← is) at oth
 one_killtime (Some t) None lawful other is = absurd (let no = rw is at lawful in cc)
 one_killtime (Some t) (Some u) lawful other is = ap Some is
 
--- pairs that are printed alike are the same
-one_list : (a b : List Pair) → ArePairs a → ArePairs b → printed a ≡ printed b → a ≡ b
-one_list a b are others is = spelled_alone (printed a) a b (printed_spells a are) (subst (λ text. Spells text b) (sym is) (printed_spells b others))
-
 -- ---- records
 
 -- a row has one job
@@ -108,7 +96,8 @@ one_job a b lawful other is =
     let number = λ (at : ℕ). ap (λ row. number_in (column row at)) is in
     let text = λ (at : ℕ). ap (λ row. text_in (column row at)) is in
     let killtime = one_killtime f.killtime g.killtime (killtime_of f lawful.limits) (killtime_of g other.limits) (number 8) in
-    let extra = one_list f.extra g.extra lawful.formed.extra other.formed.extra (text 6) in
+    let extra = spelled_alone (printed f.extra) f.extra g.extra (printed_spells f.extra lawful.formed.extra)
+    (subst (λ text. Spells text g.extra) (sym (text 6)) (printed_spells g.extra other.formed.extra)) in
     let phase = one_of phase_number phase_at phase_back f.phase g.phase (number 18) in
     let wish = one_of wish_number wish_at wish_back f.wish g.wish (number 19) in
     let same : f ≡ g =

@@ -1,6 +1,5 @@
 -- What the texts on the row of the clock and the next numbers read and write.
-use Rattle.std.proofs.Common.{◌≡◌, ◌≤◌, inl, inr, ℕ, pos, [], ◌∷◌, true, false, not, ◌&&◌, Some, Option, refl, sym, ap, ap₂, subst, ◌∙◌, arith}
-use Rattle.std.specs.Prelude.{◌==◌}
+use Rattle.std.proofs.Common.{◌≡◌, ◌≤◌, inl, inr, ℕ, pos, [], ◌∷◌, true, false, not, ◌&&◌, Some, Option, refl, sym, ap, ap₂, subst, ◌∙◌, arith, ◌==◌}
 use Rattle.std.specs.Ordering.{is_ne}
 use Rattle.std.proofs.lemmas.Bool.{both_ways, cases_Bool, eqb-true, true≢false}
 use Rattle.std.proofs.lemmas.Bool.Decides.{nat_tests}
@@ -46,14 +45,12 @@ stored m = same_row (cast_int (pos 1)) (same_row cast_null (same_row (cast_int _
 abbrev pub clock_params : ℕ → Row
 clock_params clock = number clock ∷ []
 
--- where the clock isn't written, it stood there
-differs : (a b : ℕ) → is_true (binary (Compare Ne Binary) (number a) (number b)) ≡ not (a == b)
-differs a b = compared Ne (number a) (number b) refl refl ∙ ap is_ne (value_cmp-Int (pos a) (pos b)) ∙ grind (arith, nat_tests)
-
 -- where the row doesn't pass as one with another clock, it has this one
 clock_kept : (clock : ℕ) (m : Queue) → passes meta_tree clock_tests clock_project (clock_params clock) (meta_row m) ≡ false → meta_row m ≡ meta_row (with_clock clock m)
 clock_kept clock m off =
-    let tested : (true && (not (m.clock == clock) && true)) ≡ false = sym (ap₂ ◌&&◌ (number_same 1) (ap (λ b. b && true) (differs m.clock clock))) ∙ off in
+    let differs : is_true (binary (Compare Ne Binary) (number m.clock) (number clock)) ≡ not (m.clock == clock) =
+    compared Ne (number m.clock) (number clock) refl refl ∙ ap is_ne (value_cmp-Int (pos m.clock) (pos clock)) ∙ grind (arith, nat_tests) in
+    let tested : (true && (not (m.clock == clock) && true)) ≡ false = sym (ap₂ ◌&&◌ (number_same 1) (ap (λ b. b && true) differs)) ∙ off in
     ap (λ n. meta_row (record m { clock = n })) (elim (cases_Bool (m.clock == clock)) [ inl same ↦ eqb-true m.clock clock same | inr other ↦ absurd (true≢false (sym (ap (λ b. true && (not b && true)) other) ∙ tested)) ])
 
 -- the one row of a table stands by its rowid
@@ -79,34 +76,23 @@ module _ (old new : State) (m : Queue) (k : Ledger) (means : TablesMean old.now 
     abbrev pub params : Row
     params = number clock ∷ number next_job ∷ number next_grant ∷ []
 
-    abbrev put : Queue → Queue
+    abbrev pub put : Queue → Queue
     put it = record it { clock = clock; next_job = next_job; next_grant = next_grant }
 
-    -- the text writes the clock and the next numbers, and touches meta alone
-    written : HasRun UPDATE_META.now params old new → KeepsOthers our_tables meta_tree old new × (new.now.trees meta_tree ≡ meta_row (put m) ∷ []) × IsByRowid (new.now.trees meta_tree)
-    written h =
-        let ran = runs_as UPDATE_META.now params old new our_tables means.schema _ update_meta.is update_meta.plain h.0 h.1 in
-        updated schema.meta.name 10 schema.meta.columns schema.meta.key schema.meta.primary schema.meta.uniques schema.meta.orders schema.meta.checks 5 refl old new means.schema refl (subst IsByRowid (sym means.meta) (alone m))
-        meta_tests update_project params (λ r. refl) _ h.0 meta_row put (m ∷ []) means.meta (λ it. refl) (λ it has on. stored (put it)) (λ it has off. absurd (both_ways _ off (meta_passes it params))) ran
-
-    -- the tables mean the queue with these
-    pub meta_written : IsLawfulMeta (record m { clock = clock; next_job = next_job; next_grant = next_grant }) → HasRun UPDATE_META.now params old new
-        → TablesMean new.now (record m { clock = clock; next_job = next_job; next_grant = next_grant }) k × KeepsOthers our_tables meta_tree old new
+    -- the text writes the clock and the next numbers, and touches meta alone: the tables mean the queue with these
+    pub meta_written : IsLawfulMeta (put m) → HasRun UPDATE_META.now params old new → TablesMean new.now (put m) k × KeepsOthers our_tables meta_tree old new
     meta_written lawful h =
-        let done = written h in
+        let ran = runs_as UPDATE_META.now params old new our_tables means.schema _ update_meta.is update_meta.plain h.0 h.1 in
+        let done = updated schema.meta.name 10 schema.meta.columns schema.meta.key schema.meta.primary schema.meta.uniques schema.meta.orders schema.meta.checks 5 refl old new means.schema refl (subst IsByRowid (sym means.meta) (alone m))
+        meta_tests update_project params (λ r. refl) _ h.0 meta_row put (m ∷ []) means.meta (λ it. refl) (λ it has on. stored (put it)) (λ it has off. absurd (both_ways _ off (meta_passes it params))) ran in
         (means_of new.now (put m) k means.held (meta_changed old new m (open_grants m) (calls_of m) k (parts_of old.now m k means) done.0 clock next_job next_grant done.1 lawful), done.0)
 
   module _ (clock : ℕ) where
-    -- the text writes the clock, and touches meta alone
-    clocked : HasRun UPDATE_CLOCK.now (clock_params clock) old new → KeepsOthers our_tables meta_tree old new × (new.now.trees meta_tree ≡ meta_row (with_clock clock m) ∷ []) × IsByRowid (new.now.trees meta_tree)
-    clocked h =
-        let ran = runs_as UPDATE_CLOCK.now (clock_params clock) old new our_tables means.schema _ update_clock.is update_clock.plain h.0 h.1 in
-        updated schema.meta.name meta_tree schema.meta.columns schema.meta.key schema.meta.primary schema.meta.uniques schema.meta.orders schema.meta.checks 5 refl old new means.schema refl (subst IsByRowid (sym means.meta) (alone m))
-        clock_tests clock_project (clock_params clock) (λ r. refl) _ h.0 meta_row (with_clock clock) (m ∷ []) means.meta (λ it. refl) (λ it has on. stored (with_clock clock it)) (λ it has off. clock_kept clock it off) ran
-
-    -- the tables mean the queue with this clock
+    -- the text writes the clock, and touches meta alone: the tables mean the queue with this clock
     pub clock_written : clock ≤ 4102444800 → HasRun UPDATE_CLOCK.now (clock_params clock) old new → TablesMean new.now (with_clock clock m) k × KeepsOthers our_tables meta_tree old new
     clock_written within h =
-        let done = clocked h in
+        let ran = runs_as UPDATE_CLOCK.now (clock_params clock) old new our_tables means.schema _ update_clock.is update_clock.plain h.0 h.1 in
+        let done = updated schema.meta.name meta_tree schema.meta.columns schema.meta.key schema.meta.primary schema.meta.uniques schema.meta.orders schema.meta.checks 5 refl old new means.schema refl (subst IsByRowid (sym means.meta) (alone m))
+        clock_tests clock_project (clock_params clock) (λ r. refl) _ h.0 meta_row (with_clock clock) (m ∷ []) means.meta (λ it. refl) (λ it has on. stored (with_clock clock it)) (λ it has off. clock_kept clock it off) ran in
         let lawful : IsLawfulMeta (with_clock clock m) = record { clock = within; next_job = means.lawful.meta.next_job; next_grant = means.lawful.meta.next_grant } in
         (means_of new.now (with_clock clock m) k means.held (meta_changed old new m (open_grants m) (calls_of m) k (parts_of old.now m k means) done.0 clock m.next_job m.next_grant done.1 lawful), done.0)

@@ -1,13 +1,11 @@
 -- What the texts on the modems that are down read and write.
-use Rattle.std.proofs.Common.{◌≡◌, ℕ, ℤ, List, [], ◌∷◌, ◌++◌, if◌then◌else◌, map, filter, drop, true, false, not, Option, Some, None, Err, is_some, refl, sym, ap, subst, ◌∙◌}
-use Rattle.fax_store.proofs.FoundLemmas.{none_passes, row_passes, with_id}
+use Rattle.std.proofs.Common.{◌≡◌, ℕ, List, [], ◌∷◌, ◌++◌, if◌then◌else◌, map, filter, drop, true, false, not, Option, Some, None, Err, is_some, refl, sym, ap, subst, ◌∙◌, bytes_eq, IsPermutation}
+use Rattle.fax_store.proofs.FoundLemmas.{agree_at, none_passes, row_passes, with_id}
 use Rattle.fax_store.proofs.CountLemmas.{turned}
 use Rattle.std.proofs.Math.Bool.{and-true}
-use Rattle.std.specs.Str.{bytes_eq}
-use Rattle.std.specs.List.Sorted.{IsPermutation}
 use Rattle.sqlite.specs.Cast.{cast_row}
 use Rattle.sqlite.specs.Edit.{with_rowid, next_rowid}
-use Rattle.sqlite.specs.Order.{Row}
+use Rattle.sqlite.specs.Order.{Row, column}
 use Rattle.sqlite.specs.Rowids.TheVariants.{Chosen}
 use Rattle.sqlite.specs.State.{State, Executes}
 use Rattle.sqlite.specs.declared.types.Value.TheVariants.{Null, Int, Text}
@@ -32,8 +30,7 @@ use Rattle.fax_tables.proofs.StandLemmas.{down_may}
 use Rattle.fax_tables.specs.Fault.{fault_of}
 use Rattle.fax_tables.specs.declared.fault.StoreFault.TheVariants.{Unavailable}
 use Rattle.sqlite.specs.declared.error.Error.{Error}
-use Rattle.sqlite_schema.specs.Rules.{agree}
-use Rattle.sqlite_value.specs.Keys.{first_key, plain}
+use Rattle.sqlite_value.specs.Keys.{plain}
 use Rattle.fax_schema.proofs.ModemTexts.{down_tests, down_project, down_terms, select_down, insert_down, delete_down}
 use Rattle.fax_schema.proofs.SelectLemmas.{passes}
 use Rattle.fax_tables.proofs.TablesLemmas.{AreColumns, down, parts_of, means_of, calls_of, down_changed, one_more}
@@ -92,11 +89,6 @@ module _ (modem : List ℕ) where
         let after = down_changed old new m (open_grants m) (calls_of m) k was done.keeps marked (one_more down_columns IsName modem m.down (old.now.trees down_tree) (new.now.trees down_tree) done.rows lawful (was.says down)) in
         (subst (λ b. TablesMean new.now (record m { down = if b then m.down else marked }) k) (sym free) (means_of new.now (record m { down = marked }) k means.held after), done.keeps)
 
-    -- the row of a mark agrees with the new one where it is of the same modem
-    agrees : (r : Row) (name : List ℕ) (id : ℤ) → drop 1 r ≡ down_columns name → agree plain (1 ∷ []) r (1 ∷ []) (Int id ∷ down_columns modem) ≡ bytes_eq name modem
-    unfolding first_key
-    agrees r name id is = ap (λ r. agree plain (1 ∷ []) r (1 ∷ []) (Int id ∷ down_columns modem)) (with_id r _ _ is) ∙ and-true (are_equal (Text name) (Text modem)) ∙ equal_texts name modem
-
     -- a mark that is new breaks no rule
     pub mark_goes : is_down modem m ≡ false → (e : Error) → Executes INSERT_DOWN.now params old new (Err e) → fault_of e ≡ Unavailable
     mark_goes free =
@@ -105,7 +97,8 @@ module _ (modem : List ℕ) where
         let stored : cast_row schema.down (Null ∷ down_columns modem) ≡ Null ∷ down_columns modem = same_row cast_null (same_row refl refl) in
         let may = down_may old.now means.schema means.sound modem means.ordered.down (λ r has.
         let it = record_of down_columns rows m.down same r has in
-        agrees r it.0 (next_rowid rows) it.2 ∙ turned it.0 modem ∙ none_of (bytes_eq modem) m.down it.0 free it.1) in
+        agree_at 1 r row ∙ ap (λ r. are_equal (column r 1) (Text modem)) (with_id r _ _ it.2) ∙ equal_texts it.0 modem
+        ∙ turned it.0 modem ∙ none_of (bytes_eq modem) m.down it.0 free it.1) in
         no_rule_broken schema.down.name 6 schema.down.columns schema.down.key schema.down.primary schema.down.uniques schema.down.orders schema.down.checks 3 refl old means.schema params down_terms 2 (Null ∷ down_columns modem) row refl
         (ap (with_rowid Chosen rows) stored) may INSERT_DOWN.now insert_down new
 

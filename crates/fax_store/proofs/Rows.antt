@@ -1,5 +1,5 @@
 -- Worked rows: what calls make of a queue.
-use Rattle.std.specs.Prelude.{◌≡◌, refl, [], ◌∷◌}
+use Rattle.std.proofs.Common.{◌≡◌, refl, [], ◌∷◌}
 use Rattle.fax_core.specs.Queue.{Queue, empty_queue}
 use Rattle.fax_store.specs.Grant.{with_one_more_grant, with_closed}
 use Rattle.fax_store.specs.Meta.{with_clock}

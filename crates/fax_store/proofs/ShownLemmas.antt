@@ -15,15 +15,13 @@ use Rattle.sqlite_resolve.specs.Scope.{Name}
 use Rattle.sqlite_resolve.specs.Body.{table_at}
 use Rattle.sqlite_resolve.specs.Compile.{command, compiled, first, meaning, planned, returning, shows, small, source_of, target, timed}
 use Rattle.sqlite_resolve.specs.Given.{returned}
+use Rattle.fax_store.proofs.StatementLemmas.{same_value}
 use Rattle.sqlite.specs.Listing.{understood, reads_listing, listing_schema, if_select, is_select}
 
 -- where two steps are done, the first was and then the second
 through : {A B : Type 0} (x : Checked A) (f : A → Checked B) (b : B) → and_then x f ≡ Ok b → (a : A) × (x ≡ Ok a) × (f a ≡ Ok b)
 through (Ok a) f b h = (a, refl, h)
 through (Err e) f b h = absurd cc
-
-same_value : {A : Type 0} {a b : A} → ◌≡◌ {A = Checked A} (Ok a) (Ok b) → a ≡ b
-same_value e = cc
 
 not_ok : {A : Type 0} {a : A} {f : CompileError} → ◌≡◌ {A = Checked A} (Err f) (Ok a) → ⊥
 not_ok e = cc

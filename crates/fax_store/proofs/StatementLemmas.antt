@@ -11,7 +11,7 @@ use Rattle.sqlite.specs.Rows.{Task}
 use Rattle.sqlite_schema.specs.declared.schema.Table.{Table}
 use Rattle.sqlite.specs.State.{State, IsNotRun, Shown, ShowsRows, FailsToQuery, FailsToShow, IsUnchanged, Runs, Shows, Writes, mode_of, shows_rows, text_of, ExecutesIn, Executes}
 use Rattle.sqlite.specs.Command.{Command}
-use Rattle.sqlite.specs.Command.TheVariants.{Select, Insert, InsertOr, Update, Delete, CreateTable, CreateIndex, DropTable, DropIndex, Rows, Begin, Commit, Rollback, Savepoint, Release, RollbackTo, Nothing, CreateView, DropView}
+use Rattle.sqlite.specs.Command.TheVariants.{Select, Insert, Update, Delete, Rows, Begin, Commit, Rollback, Savepoint, Release, RollbackTo, Nothing}
 use Rattle.std.proofs.lemmas.Bool.{cases_Bool}
 use Rattle.sqlite.specs.Clock.{timed}
 use Rattle.sqlite.proofs.Callers.{IsPlain, command_of}
@@ -21,7 +21,7 @@ use Rattle.fax_schema.proofs.StatementForms.{Commands}
 use Rattle.fax_schema.proofs.WriteLemmas.{went}
 use Rattle.sqlite_resolve.specs.declared.error.CompileError.{CompileError}
 
-same_value : {B E : Type 0} {a b : B} → ◌≡◌ {A = Result B E} (Ok a) (Ok b) → a ≡ b
+pub same_value : {B E : Type 0} {a b : B} → ◌≡◌ {A = Result B E} (Ok a) (Ok b) → a ≡ b
 same_value e = cc
 
 module _ (old new : State) (sql : List ℕ) (params : Row) where
@@ -61,14 +61,6 @@ module _ (old new : State) (sql : List ℕ) (params : Row) where
   -- where a statement has run and the database is open, it was before
   runs_open : (returning : Option Returning) (command : Command) (text : List ℕ) (count : ℕ) → Runs old new returning command text params count → IsTrue new.is_open → IsTrue old.is_open
   runs_open returning (Select q names) text count h is_open = absurd h
-  runs_open returning (Insert at from) text count h is_open = h.shown.was_open
-  runs_open returning (InsertOr at how from clauses) text count h is_open = h.shown.was_open
-  runs_open returning (Update at q) text count h is_open = h.shown.was_open
-  runs_open returning (Delete at q) text count h is_open = h.shown.was_open
-  runs_open returning CreateTable text count h is_open = h.shown.was_open
-  runs_open returning (CreateIndex at) text count h is_open = h.shown.was_open
-  runs_open returning (DropTable at) text count h is_open = h.shown.was_open
-  runs_open returning (DropIndex at) text count h is_open = h.shown.was_open
   runs_open returning Begin text count h is_open = h.1.was_open
   runs_open returning Commit text count h is_open = h.1.was_open
   runs_open returning Rollback text count h is_open = h.1.was_open is_open
@@ -77,8 +69,7 @@ module _ (old new : State) (sql : List ℕ) (params : Row) where
   runs_open returning (RollbackTo name) text count h is_open = h.2.2.was_open
   runs_open returning (Rows values width names) text count h is_open = h.0.0.was_open
   runs_open returning Nothing text count h is_open = h.0.0.was_open
-  runs_open returning CreateView text count h is_open = h.shown.was_open
-  runs_open returning (DropView at) text count h is_open = h.shown.was_open
+  runs_open returning _ text count h is_open = h.shown.was_open
 
 module _ (old new : State) (sql : List ℕ) (params : Row) where
   -- the database was open where a statement has run and it is

@@ -1,5 +1,5 @@
 -- What a crash behind a call may leave.
-use Rattle.std.proofs.Common.{◌≡◌, ◌⊎◌, inl, inr, ℕ, Bool, List, [], false, true, None, Ok, Err, Result, IsErrAnd, is_err, IsTrue, refl, sym, ap, subst, ◌∙◌}
+use Rattle.std.proofs.Common.{◌≡◌, ◌⊎◌, inl, inr, ℕ, Bool, List, [], false, true, None, Ok, Err, Result, is_err, IsTrue, refl, sym, ap, subst, ◌∙◌, arith}
 use Rattle.std.specs.Prelude.{⊤}
 use Rattle.std.proofs.lemmas.Bool.{both_ways}
 use Rattle.sqlite_trees.specs.Tree.{Trees}
@@ -19,7 +19,7 @@ use Rattle.fax_tables.specs.declared.fault.StoreFault.{StoreFault}
 use Rattle.fax_tables.proofs.StopLemmas.{Ends, inside_commits_nothing, nothing_by, nothing_then}
 use Rattle.fax_store.specs.declared.store.TheConstants.{BEGIN, COMMIT, ROLLBACK}
 use Rattle.fax_store.specs.Store.{Serves, HasTables, MayFind, CommitsNothing, EditsRows, IsEdit, IsEditText, IsQueryText, Reads}
-use Rattle.fax_store.specs.Work.{IsOn, IsActive, Opens, Withholds, MayCommit}
+use Rattle.fax_store.specs.Work.{IsActive, Opens, Withholds, MayCommit}
 use Rattle.fax_store.proofs.ControlLemmas.{IsControl, begin_is, begins, rollback_is}
 use Rattle.fax_store.proofs.ShownLemmas.{shows_nothing}
 use Rattle.fax_store.proofs.StatementLemmas.{edit_shows}
@@ -32,14 +32,11 @@ shows_none : (sql : List ℕ) (c : Compiled) (known : Result Compiled CompileErr
 shows_none sql c (Ok e) is plain s at = shows_nothing our_tables s sql e c is plain.0 at
 shows_none sql c (Err f) is plain s at = absurd plain
 
--- a query commits nothing by showing its rows
-pub query_commits_nothing : (s : State) (sql : List ℕ) (params : Row) → IsQueryText sql → (found : Trees) → CommitsShowing sql params s found → ⊥
-unfolding CommitsShowing
-query_commits_nothing s sql params query found h = absurd (let no = rw (shows_none sql h.0 (understood our_tables sql) refl query s.now.schema h.1.is) at h.2 in cc)
-
--- so a crash behind a query leaves what it could leave before
+-- a query commits nothing by showing its rows, so a crash behind it leaves what it could leave before
 pub queries_nothing : (old new : State) (sql : List ℕ) (params : Row) → IsQueryText sql → Survives old new (CommitsShowing sql params old) → CommitsNothing old new
-queries_nothing old new sql params query survives = nothing_by old new (CommitsShowing sql params old) survives (λ found clean. query_commits_nothing old sql params query found)
+unfolding CommitsShowing
+queries_nothing old new sql params query survives = nothing_by old new (CommitsShowing sql params old) survives (λ found clean h.
+    absurd (let no = rw (shows_none sql h.0 (understood our_tables sql) refl query old.now.schema h.1.is) at h.2 in cc))
 
 -- ---- BEGIN, COMMIT and ROLLBACK
 
@@ -51,35 +48,28 @@ IsQuiet other = ⊥
 
 -- a quiet command commits nothing
 quiet_nothing : (s : State) (command : Command) (text : List ℕ) (params : Row) (found : Trees) → IsQuiet command → CommitsAs s None command text params found → ⊥
-quiet_nothing s Begin text params found is (inl ends) = elim ends.0 [ inl commit ↦ absurd (let bad = commit in cc) | inr release ↦ absurd (let bad = release.2 in cc) ]
-quiet_nothing s Rollback text params found is (inl ends) = elim ends.0 [ inl commit ↦ absurd (let bad = commit in cc) | inr release ↦ absurd (let bad = release.2 in cc) ]
-quiet_nothing s Begin text params found is (inr writes) = absurd (let bad = writes.3 in cc)
-quiet_nothing s Rollback text params found is (inr writes) = absurd (let bad = writes.3 in cc)
+quiet_nothing s Begin text params found is h = grind arith
+quiet_nothing s Rollback text params found is h = grind arith
 quiet_nothing s _ text params found is h = absurd is
 
 -- so a crash behind a quiet command leaves what it could leave before
-control_nothing : (old new : State) (sql : List ℕ) (command : Command) → IsQuiet command → ((c : Compiled) → understood old.now.schema sql ≡ Ok c → IsControl sql command (Ok c)) → Survives old new (CommitsBy sql [] old) → CommitsNothing old new
+control_nothing : (old new : State) (sql : List ℕ) (command : Command) → IsQuiet command → IsControl sql command (understood old.now.schema sql)
+    → Survives old new (CommitsBy sql [] old) → CommitsNothing old new
 unfolding CommitsBy
-control_nothing old new sql command quiet is survives = nothing_by old new (CommitsBy sql [] old) survives (λ found clean. never found)
-  where
-    never : (found : Trees) → CommitsBy sql [] old found → ⊥
-    never found h =
-        let it = is h.0 h.1.is in
-        let text = text_of sql h.0 in
-        let full = timed [] h.0.formats h.1.now in
-        quiet_nothing old command text full found quiet (subst (λ k. CommitsAs old None k text full found) it.0 (subst (λ r. CommitsAs old r h.0.command text full found) it.1 h.2))
-
--- what the text is understood as is this command
-known : (sql : List ℕ) (command : Command) (r : Result Compiled CompileError) → IsControl sql command r → (c : Compiled) → r ≡ Ok c → IsControl sql command (Ok c)
-known sql command r is c e = subst (IsControl sql command) e is
+control_nothing old new sql command quiet is survives = nothing_by old new (CommitsBy sql [] old) survives (λ found clean h.
+    let it = subst (IsControl sql command) h.1.is is in
+    let text = text_of sql h.0 in
+    let full = timed [] h.0.formats h.1.now in
+    quiet_nothing old command text full found quiet
+    (subst (λ k. CommitsAs old None k text full found) it.0 (subst (λ r. CommitsAs old r h.0.command text full found) it.1 h.2)))
 
 -- a crash behind a begin leaves what it could leave before
 pub begin_nothing : (old new : State) → Survives old new (CommitsBy BEGIN.now [] old) → CommitsNothing old new
-begin_nothing old new = control_nothing old new BEGIN.now Begin tt (known BEGIN.now Begin (understood old.now.schema BEGIN.now) (begin_is old.now.schema))
+begin_nothing old new = control_nothing old new BEGIN.now Begin tt (begin_is old.now.schema)
 
 -- a crash behind a rollback leaves what it could leave before
 pub rollback_nothing : (old new : State) → Survives old new (CommitsBy ROLLBACK.now [] old) → CommitsNothing old new
-rollback_nothing old new = control_nothing old new ROLLBACK.now Rollback tt (known ROLLBACK.now Rollback (understood old.now.schema ROLLBACK.now) (rollback_is old.now.schema))
+rollback_nothing old new = control_nothing old new ROLLBACK.now Rollback tt (rollback_is old.now.schema)
 
 -- a begin over our tables makes the work active, and commits nothing
 pub begun_opens : (old new : State) → Survives old new (CommitsBy BEGIN.now [] old) → (n : ℕ) → (HasCleanDisk new → Executes BEGIN.now [] old new (Ok n)) → Opens old new false
@@ -124,15 +114,13 @@ edit_ends_nothing Commit edit ends = edit
 edit_ends_nothing (Release name) edit ends = edit
 edit_ends_nothing _ edit ends = ends
 
--- inside a work it commits nothing
-edit_commits_nothing : (s : State) (sql : List ℕ) (params : Row) → IsOn s → IsEditText sql → (found : Trees) → CommitsBy sql params s found → ⊥
-edit_commits_nothing s sql params on edit =
-    inside_commits_nothing s sql params (λ c is. edit_ends_nothing c.command (subst EditsRows (sym (ap (λ t. understood t sql) on.schema_is) ∙ is) edit).0) on.inside
-
 module _ (old new : State) (sql : List ℕ) (params : Row) (edit : IsEditText sql) (survives : Survives old new (CommitsBy sql params old)) where
   -- a crash behind it, inside an active work, leaves what it could leave before
   edits_nothing : IsActive old false → CommitsNothing old new
-  edits_nothing active = nothing_by old new (CommitsBy sql params old) survives (λ found clean. edit_commits_nothing old sql params (active clean refl) edit found)
+  edits_nothing active = nothing_by old new (CommitsBy sql params old) survives (λ found clean.
+      let on = active clean refl in
+      inside_commits_nothing old sql params (λ c is. edit_ends_nothing c.command (subst EditsRows (sym (ap (λ t. understood t sql) on.schema_is) ∙ is) edit).0)
+      on.inside found)
 
   -- one that has run leaves the work active, and commits nothing
   pub edit_withholds : (count : ℕ) → (HasCleanDisk new → Executes sql params old new (Ok count)) → Withholds old false new false
@@ -167,8 +155,3 @@ withholds_then a b c h first next active =
     let one = first active in
     let two = next one.0 in
     (two.0, nothing_then a b c one.1 two.1)
-
--- a call that was refused leaves what a refused one does
-pub withholds_err : {A : Type 0} (a b : State) (result : Result A StoreFault) (P : StoreFault → Type 0) → IsErrAnd result P → Withholds a false b true → Withholds a false b (is_err result)
-withholds_err a b (Ok x) P is h = absurd is
-withholds_err a b (Err e) P is h = h

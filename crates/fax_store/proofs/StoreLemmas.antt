@@ -22,7 +22,7 @@ use Rattle.fax_store.proofs.StatementLemmas.{left_open, run_open}
 use Rattle.sqlite.specs.declared.error.Error.TheVariants.{SqliteFailure}
 use Rattle.sqlite.specs.declared.error.ErrorCode.TheVariants as code
 use Rattle.sqlite_trees.specs.declared.error.StoreError.{StoreError}
-use Rattle.sqlite_trees.specs.declared.error.StoreError.TheVariants.{OutOfMemory, Io, Corrupt, Full, Broken, Unstorable}
+use Rattle.sqlite_trees.specs.declared.error.StoreError.TheVariants.{Broken}
 
 -- the tables mean the same in an equal database
 pub same_tables : {a b : Database} (m : Queue) (k : Ledger) → b ≡ a → TablesMean a m k → TablesMean b m k
@@ -149,20 +149,13 @@ undoes_commit old new served back m₀ m k₀ k works s =
 
 -- no text is refused for a closed database by what it says
 no_statement : (s : State) (sql : List ℕ) (e : Error) → e ≡ SqliteFailure code.Closed → ¬ (IsNoStatement s sql [] e)
-no_statement s sql e is (inl (fault, unknown, said)) = absurd (let both = sym is ∙ said in cc)
-no_statement s sql e is (inr (c, known, inl (more, said))) = absurd (let both = sym is ∙ said in cc)
-no_statement s sql e is (inr (c, known, inr (inl (other, said)))) = absurd (let both = sym is ∙ said in cc)
-no_statement s sql e is (inr (c, known, inr (inr (times, said)))) = absurd (let both = sym is ∙ said in cc)
+no_statement s sql e is h = grind arith
 
 module _ (old new : State) where
   -- where the cause is that the database is closed, it is closed
   closed_for : (cause : StoreError) → SqliteFailure code.Closed ≡ store_error cause → HasCause old new ⊥ cause → IsRolledBack old new → new.is_open ≡ false
-  closed_for OutOfMemory e had undone = absurd (let both = e in cc)
-  closed_for Io e had undone = absurd (let both = e in cc)
-  closed_for Corrupt e had undone = absurd (let both = e in cc)
-  closed_for Full e had undone = absurd (let both = e in cc)
   closed_for Broken e had undone = false_from_ne_true new.is_open (λ on. both_ways _ had (undone.was_open on))
-  closed_for Unstorable e had undone = absurd (let both = e in cc)
+  closed_for _ e had undone = absurd (let both = e in cc)
 
   -- it is closed where it says so
   pub is_closed : (sql : List ℕ) (e : Error) → e ≡ SqliteFailure code.Closed → IsNotRun old new sql [] e → new.is_open ≡ false
@@ -179,10 +172,7 @@ module _ (old new : State) where
   module _ (kept : doubt old.is_clean ≤ doubt new.is_clean) (sql : List ℕ) (e : Error) (ran : HasCleanDisk new → IsNotRun old new sql [] e) where
     -- where the database serves behind it, it did before
     pub was_served : Serves new → Serves old
-    was_served s = served old new kept s (elim (not_run sql e (ran s.clean)) [
-      | inl same ↦ same.0.was_open
-      | inr undone ↦ undone.was_open s.is_open
-    ])
+    was_served s = served old new kept s (left_open old new sql [] (not_run sql e (ran s.clean)) s.is_open)
 
     -- and has the same rows
     pub still_rests : Stays old new

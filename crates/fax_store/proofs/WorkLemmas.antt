@@ -1,7 +1,6 @@
 -- What a work means across its calls.
-use Rattle.std.proofs.Common.{◌≡◌, inl, inr, ℕ, List, true, false, Ok, Err, Result, MatchResult, OnOk, OnErr, IfErr, IfOk, IsErrAnd, is_err, if◌then◌else◌, ap, refl, sym, ◌∙◌, Bool, IsTrue, Option, Some, None}
+use Rattle.std.proofs.Common.{◌≡◌, inl, inr, ℕ, List, true, false, Ok, Err, Result, MatchResult, OnOk, OnErr, IfErr, IfOk, IsErrAnd, is_err, if◌then◌else◌, ap, refl, sym, ◌∙◌, Bool, IsTrue, Option, Some, None, option_map}
 use Rattle.std.proofs.lemmas.Option.{same_Some}
-use Rattle.std.specs.Option.{option_map}
 use Rattle.sqlite.specs.Effect.{Database}
 use Rattle.sqlite.specs.Order.{Row}
 use Rattle.sqlite.specs.State.{State, HasCleanDisk, IsUnchanged, Executes}
@@ -23,15 +22,6 @@ use Rattle.fax_schema.proofs.WriteLemmas.{KeepsOthers}
 pub there_as : {X Y : Type 0} (f : X → Y) (o : Option X) (y : Y) → Some y ≡ option_map f o → (x : X) × (o ≡ Some x) × (y ≡ f x)
 there_as f None y e = absurd cc
 there_as f (Some x) y e = (x, refl, same_Some y (f x) e)
-
--- what holds where a call is done, or where it is refused, says more
-pub ok_as : {A : Type 0} {P Q : Type 0} (result : Result A StoreFault) → (P → Q) → OnOk result P → OnOk result Q
-ok_as (Ok a) more h = more h
-ok_as (Err e) more h = tt
-
-pub err_as : {A : Type 0} {P Q : Type 0} (result : Result A StoreFault) → (P → Q) → OnErr result P → OnErr result Q
-err_as (Ok a) more h = tt
-err_as (Err e) more h = more h
 
 -- what a refusal leaves was committed
 committed_is : (old new : State) → LeavesCommit old new → IsTrue new.is_open → new.committed ≡ old.committed
@@ -55,6 +45,12 @@ moves_by old new (Err e) m₀ m after k₀ k kept served holds works s means =
 pub both_as : {A : Type 0} {P Q R S : Type 0} (result : Result A StoreFault) → (P → R) → (Q → S) → MatchResult result (λ _. P) (λ _. Q) → MatchResult result (λ _. R) (λ _. S)
 both_as (Ok a) done refused h = done h
 both_as (Err e) done refused h = refused h
+
+pub ok_as : {A : Type 0} {P Q : Type 0} (result : Result A StoreFault) → (P → Q) → OnOk result P → OnOk result Q
+ok_as result more = both_as result more (λ t. t)
+
+pub err_as : {A : Type 0} {P Q : Type 0} (result : Result A StoreFault) → (P → Q) → OnErr result P → OnErr result Q
+err_as result more = both_as result (λ t. t) more
 
 -- what a call tells where X holds
 pub given_ok : {A : Type 0} (X Y : Type 0) (result : Result A StoreFault) → (X → OnOk result Y) → OnOk result (X → Y)
@@ -135,26 +131,26 @@ module _ (old new : State) (served : Serves new → Serves old) {A : Type 0} (re
           record { began = same.0.committed_is ∙ was.began; goes_on = λ _. (same.0.mode ∙ on.0, ap (λ (d : Database). d.schema) same.0.now_is ∙ on.1) }
       kept (Err e) left = record { began = committed_is old new left s.is_open ∙ was.began; goes_on = λ on. absurd cc }
 
+  -- a call that only reads keeps what a work means
+  pub keeps_by : Keeps old false new (is_err result)
+  keeps_by m₀ m k₀ k works s = kept result (read (was.goes_on refl).means.schema s.clean)
+    where
+      was : IsUnderWay old false m₀ k₀ m k
+      was = works (served s)
+
+      kept : (r : Result A StoreFault) → Reads old new r → IsUnderWay new (is_err r) m₀ k₀ m k
+      kept (Ok a) h =
+          let same = h.0 in
+          let inside = was.goes_on refl in record {
+            began = same_tables m₀ k₀ same.committed_is was.began;
+            goes_on = λ _. record { inside = same.mode ∙ inside.inside; means = same_tables m k same.now_is inside.means };
+          }
+      kept (Err e) left = record { began = same_tables m₀ k₀ (committed_is old new left s.is_open) was.began; goes_on = λ on. absurd cc }
+
   module _ (P : Queue → Ledger → A → Type 0) (answers : (m : Queue) (k : Ledger) → MeansNow old m k → Serves new → OrUnavailable result (P m k)) where
     -- what the tables mean inside a work
     works_now : (m₀ m : Queue) (k₀ k : Ledger) → Works old false m₀ k₀ m k → MeansNow old m k
     works_now m₀ m k₀ k works was = ((works was).goes_on refl).means
-
-    -- a call that only reads keeps what a work means
-    pub keeps_by : Keeps old false new (is_err result)
-    keeps_by m₀ m k₀ k works s = kept result (read (was.goes_on refl).means.schema s.clean)
-      where
-        was : IsUnderWay old false m₀ k₀ m k
-        was = works (served s)
-
-        kept : (r : Result A StoreFault) → Reads old new r → IsUnderWay new (is_err r) m₀ k₀ m k
-        kept (Ok a) h =
-            let same = h.0 in
-            let inside = was.goes_on refl in record {
-              began = same_tables m₀ k₀ same.committed_is was.began;
-              goes_on = λ _. record { inside = same.mode ∙ inside.inside; means = same_tables m k same.now_is inside.means };
-            }
-        kept (Err e) left = record { began = same_tables m₀ k₀ (committed_is old new left s.is_open) was.began; goes_on = λ on. absurd cc }
 
     -- inside a work, what it answers is so of all that the work means
     pub found_in : AnswersIn old false new result P
@@ -171,11 +167,6 @@ module _ (old new : State) (served : Serves new → Serves old) {A : Type 0} (re
 -- calls of a work, one after the other
 pub holds_then : (a b c : State) (failed : Bool) → (Serves c → Serves b) → Holds a false b false → Holds b false c failed → Holds a false c failed
 holds_then a b c failed served first next db over s = next db (λ at. first db over at) s
-
--- what a refusal leaves, whatever it is
-pub holds_err : {A : Type 0} (a b : State) (result : Result A StoreFault) (P : StoreFault → Type 0) → IsErrAnd result P → Holds a false b true → Holds a false b (is_err result)
-holds_err a b (Ok x) P is h = absurd is
-holds_err a b (Err e) P is h = h
 
 -- A statement that writes rows of one table moves a work on. Where it was refused, the last commit stands.
 pub move_by : (old new : State) (sql : List ℕ) (params : Row) (tree : ℕ) (result : Result (Unit {0}) StoreFault) (m₀ m after : Queue) (k₀ k kept : Ledger) → (Serves new → Serves old) → Works old false m₀ k₀ m k → Serves new
@@ -203,16 +194,13 @@ pub step_by : (old new : State) (sql : List ℕ) (params : Row) (tree : ℕ) (re
 step_by old new sql params tree result m₀ m after k₀ k kept served works s ran left cause does =
     step_of new result m₀ after k₀ kept cause (move_by old new sql params tree result m₀ m after k₀ k kept served works s ran left does)
 
--- an INSERT that breaks no rule is refused for want of an answer alone
-pub told_unavailable : (old new : State) (sql : List ℕ) (params : Row) {A : Type 0} (result : Result A StoreFault) → IfErr result (IsRefusedFor sql params old new) → ((e : Error) → Executes sql params old new (Err e) → fault_of e ≡ Unavailable)
-    → IfErr result (λ fault. fault ≡ Unavailable)
-told_unavailable old new sql params (Ok a) told goes = tt
-told_unavailable old new sql params (Err fault) told goes = told.2 ∙ goes told.0 told.1
-
--- and so it is where what the tables mean lets its row break none
+-- an INSERT whose row breaks no rule, by what the tables mean, is refused for want of an answer alone
 pub only_unavailable : (old new : State) (sql : List ℕ) (params : Row) {A : Type 0} (result : Result A StoreFault) (P : Queue → Ledger → Type 0) → (Serves new → Serves old) → (HasCleanDisk new → IfErr result (IsRefusedFor sql params old new))
     → ((m : Queue) (k : Ledger) → TablesMean old.now m k → P m k → (e : Error) → Executes sql params old new (Err e) → fault_of e ≡ Unavailable) → IsOnlyUnavailable old false new result P
-only_unavailable old new sql params result P served told goes m₀ m k₀ k works s holds = told_unavailable old new sql params result (told s.clean) (goes m k ((works (served s)).goes_on refl).means holds)
+only_unavailable old new sql params (Ok a) P served told goes m₀ m k₀ k works s holds = tt
+only_unavailable old new sql params (Err fault) P served told goes m₀ m k₀ k works s holds =
+    let why = told s.clean in
+    why.2 ∙ goes m k ((works (served s)).goes_on refl).means holds why.0 why.1
 
 -- a refusal that is passed on
 pub refused_as : {A : Type 0} (result : Result A StoreFault) (fault : StoreFault) → IsErrAnd result (λ e. e ≡ fault) → fault ≡ Unavailable → IfErr result (λ e. e ≡ Unavailable)
@@ -243,12 +231,6 @@ under_way new (Err e) m₀ m k₀ k h = record { began = h; goes_on = λ on. abs
 pub moved_by : (old new : State) {A : Type 0} (result : Result A StoreFault) (f : Queue → Queue) (g : Ledger → Ledger) → ((m₀ m : Queue) (k₀ k : Ledger) → Works old false m₀ k₀ m k → Serves new → Moves new result m₀ k₀ (f m) (g k))
     → Changes old false new (is_err result) f g
 moved_by old new result f g moves m₀ m k₀ k works s = under_way new result m₀ (f m) k₀ (g k) (moves m₀ m k₀ k works s)
-
--- and so does one that steps on
-pub changes_by : (old new : State) {A : Type 0} (result : Result A StoreFault) (f : Queue → Queue) (g : Ledger → Ledger) → ((m₀ m : Queue) (k₀ k : Ledger) → Works old false m₀ k₀ m k → Serves new → Steps new result m₀ k₀ (f m) (g k))
-    → Changes old false new (is_err result) f g
-changes_by old new result f g steps m₀ m k₀ k works s = under_way new result m₀ (f m) k₀ (g k)
-    (moves_of new result m₀ (f m) k₀ (g k) (steps m₀ m k₀ k works s))
 
 -- a call that moves on each work of a queue of which P holds
 pub steps_where : (old new : State) {A : Type 0} (P : Queue → Type 0) (result : Result A StoreFault) (f : Queue → Queue) (g : Ledger → Ledger)

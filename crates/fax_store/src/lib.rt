@@ -2,7 +2,7 @@
 //!
 //! A [`Store`] reads them, and a [`Work`] changes them, all of its changes together or none.
 //! Nothing above this crate speaks of SQL.
-#![tactic(auto)]
+#![tactic(auto, using(crate::proofs::TextLemmas::texts))]
 
 mod adopt;
 mod candidates;

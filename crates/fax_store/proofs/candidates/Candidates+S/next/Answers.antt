@@ -1,44 +1,28 @@
-use Rattle.std.proofs.Common.{ℕ, List, sym, ap, ◌∙◌, rules}
+use Rattle.std.proofs.Common.{ℕ, List, sym, ap, ◌∙◌, rules, option_map}
 use Rattle.std.proofs.lemmas.Option.{none-some, same_Some}
-use Rattle.std.specs.Option.{option_map}
 use Rattle.fax_core.specs.Job.{fields_of}
 use Rattle.fax_core.specs.Queue.{job_numbered}
 use Rattle.fax_core.specs.State.{calls_to}
 use Rattle.fax_tables.specs.declared.prospect.Prospect.{Prospect}
-use Rattle.fax_tables.proofs.ResultLemmas.{passes_on}
-use Rattle.fax_store.proofs.CandidateLemmas.{given_there}
+use Rattle.fax_store.proofs.CandidateLemmas.{advances_err, given_there}
 use Rattle.fax_store.proofs.StoreLemmas.{means_stay}
-use Rattle.fax_store.proofs.WorkLemmas.{never_ok}
 use Rattle.fax_store.proofs.FrameLemmas.{looks_of, looks_then, means_now}
 use Rattle.fax_store.proofs.candidates.Candidates+S.next.Goals as goal
 
 pub returns-in_err-prospect : goal.returns-in_err-prospect
-returns-in_err-prospect g c = record {
-  same_reference = search rules;
-  leaves = search rules;
-  opens = search rules;
-  asked = search rules;
-  found = λ m k given means serves stands. passes_on c.from_residual.result c.in_err-prospect.field-0.0 _ c.from_residual.ensures.1 (c.in_err-prospect.ensures.found m k given means serves stands);
-}
+returns-in_err-prospect g c =
+    let stopped = c.prospect.ensures in
+    advances_err g.S.Store stopped.same_reference stopped.asked stopped.leaves c.in_err-prospect.ensures.found c.from_residual.result c.from_residual.ensures.1
 
 pub returns-in_default : goal.returns-in_default
-returns-in_default g c = record {
-  same_reference = search rules;
-  leaves = search rules;
-  opens = search rules;
-  asked = search rules;
-  found = λ m k given means serves stands. rw c.in_default.is at (c.in_ok-prospect.ensures.found m k given means serves stands);
-}
+returns-in_default g c = let found = rw c.in_default.is at c.in_ok-prospect.ensures.found in search (rules, c.in_ok-prospect.ensures.none)
 
 pub returns-in_err-job : goal.returns-in_err-job
-returns-in_err-job g c = record {
-  same_reference = search rules;
-  leaves = looks_then g.S.Store _ _ _ c.prospect.ensures.leaves (looks_of g.S.Store _ _ _ c.job.ensures.leaves);
-  opens = search rules;
-  asked = search rules;
-  found = λ m k given means serves stands. passes_on c.from_residual-in_err-job.result c.in_err-job.field-0.0 _ c.from_residual-in_err-job.ensures.1
-      (c.in_err-job.ensures.answers m k (means_now (means_stay c.prospect.ensures.leaves.served c.prospect.ensures.leaves.stays m k means)) serves);
-}
+returns-in_err-job g c =
+    let reached = c.prospect.ensures in
+    advances_err g.S.Store reached.same_reference reached.asked (looks_then g.S.Store _ _ _ reached.leaves (looks_of g.S.Store _ _ _ c.job.ensures.leaves))
+    (λ m k given means serves stands. c.in_err-job.ensures.answers m k (means_now (means_stay reached.leaves.served reached.leaves.stays m k means)) serves)
+    c.from_residual-in_err-job.result c.from_residual-in_err-job.ensures.1
 
 pub returns-in_default-2 : goal.returns-in_default-2
 returns-in_default-2 g c = record {
@@ -54,15 +38,12 @@ returns-in_default-2 g c = record {
 }
 
 pub returns-in_err-calls : goal.returns-in_err-calls
-returns-in_err-calls g c = record {
-  same_reference = search rules;
-  leaves = looks_then g.S.Store _ _ _ (looks_then g.S.Store _ _ _ c.prospect.ensures.leaves (looks_of g.S.Store _ _ _ c.job.ensures.leaves)) (looks_of g.S.Store _ _ _ c.active_to.ensures.leaves);
-  opens = never_ok _ c.from_residual-in_err-calls.result _ c.from_residual-in_err-calls.ensures.1;
-  asked = search rules;
-  found = λ m k given means serves stands. let looked = means_stay c.prospect.ensures.leaves.served c.prospect.ensures.leaves.stays m k means in
-      passes_on c.from_residual-in_err-calls.result c.in_err-calls.field-0.0 _ c.from_residual-in_err-calls.ensures.1
-      (c.in_err-calls.ensures.answers m k (means_now (means_stay c.job.ensures.leaves.served c.job.ensures.leaves.stays m k looked)) serves);
-}
+returns-in_err-calls g c =
+    let reached = c.prospect.ensures in
+    let leaves = looks_then g.S.Store _ _ _ reached.leaves (looks_of g.S.Store _ _ _ c.job.ensures.leaves) in
+    advances_err g.S.Store reached.same_reference reached.asked (looks_then g.S.Store _ _ _ leaves (looks_of g.S.Store _ _ _ c.active_to.ensures.leaves))
+    (λ m k given means serves stands. c.in_err-calls.ensures.answers m k (means_now (means_stay leaves.served leaves.stays m k means)) serves)
+    c.from_residual-in_err-calls.result c.from_residual-in_err-calls.ensures.1
 
 pub returns : goal.returns
 returns g c = record {

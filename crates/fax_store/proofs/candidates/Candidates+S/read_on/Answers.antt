@@ -2,9 +2,8 @@ use Rattle.std.proofs.Common.{◌≡◌, ◌∙◌, ◌<◌, ap, sym, arith, rul
 use Rattle.std.specs.Vec.Iter.{into_iter_items}
 use Rattle.fax_core.specs.Job.{fields_of}
 use Rattle.fax_store.specs.Candidates.{front_of}
-use Rattle.fax_tables.proofs.ResultLemmas.{passes_on}
 use Rattle.fax_store.proofs.CandidateLemmas.{all_given, page_empty, page_ends, page_lawful, stands_on, stands_page}
-use Rattle.fax_store.proofs.FrameLemmas.{means_now}
+use Rattle.fax_store.proofs.FrameLemmas.{means_now, passes_on}
 use Rattle.fax_store.proofs.candidates.Candidates+S.read_on.Goals as goal
 use Rattle.fax_store.proofs.candidates.Candidates+S.read_on.Goals.{in-Some+in_ok-prospect_in-in-Some, in-None}
 

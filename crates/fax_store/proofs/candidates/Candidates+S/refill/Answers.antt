@@ -3,24 +3,21 @@ use Rattle.std.specs.Vec.Iter.{into_iter_items}
 use Rattle.std.proofs.lemmas.List.{nil_from_length}
 use Rattle.fax_store.specs.Candidates.{AreAsked, StandsAt}
 use Rattle.fax_store.specs.declared.candidates.Asked.{Asked}
-use Rattle.fax_tables.proofs.ResultLemmas.{passes_on}
+use Rattle.fax_store.proofs.CandidateLemmas.{reaches_err}
 use Rattle.fax_store.proofs.FrameLemmas.{looks_then}
 use Rattle.fax_store.proofs.StoreLemmas.{means_stay}
 use Rattle.fax_store.proofs.candidates.Candidates+S.refill.Goals as goal
 
 pub returns-in_err-read_on : goal.returns-in_err-read_on
-returns-in_err-read_on g c = record {
-  same_reference = search rules;
-  leaves = looks_then g.S.Store _ _ _ c.loop-self.invariant.leaves c.read_on.ensures.leaves;
-  opens = search rules;
-  none = search rules;
-  asked = search rules;
-  found = λ m k given means serves stands. let before = into_iter_items c.loop-self.self.page in
-      let empty : before ≡ [] = nil_from_length before (omega (arith, c.loop-self-test.true, c.loop-self.self.page.rest.ok.0, c.len.ensures)) in
-      let stood = rw (← c.loop-self.invariant.asked, empty) at (c.loop-self.invariant.found m k given means (c.read_on.ensures.leaves.served serves) stands) in
-      passes_on c.from_residual.result c.in_err-read_on.field-0.0 _ c.from_residual.ensures.1
-      (c.in_err-read_on.ensures.found m k given (means_stay c.loop-self.invariant.leaves.served c.loop-self.invariant.leaves.stays m k means) serves stood);
-}
+returns-in_err-read_on g c =
+    let was = c.loop-self.invariant in
+    let read = c.read_on.ensures in
+    reaches_err g.S.Store (read.same_reference ∙ was.same_reference) (read.asked ∙ was.asked) (looks_then g.S.Store _ _ _ was.leaves read.leaves)
+    (λ m k given means serves stands. let before = into_iter_items c.loop-self.self.page in
+    let empty : before ≡ [] = nil_from_length before (omega (arith, c.loop-self-test.true, c.loop-self.self.page.rest.ok.0, c.len.ensures)) in
+    let stood = rw (← was.asked, empty) at (was.found m k given means (read.leaves.served serves) stands) in
+    c.in_err-read_on.ensures.found m k given (means_stay was.leaves.served was.leaves.stays m k means) serves stood)
+    c.from_residual.result c.from_residual.ensures.1
 
 pub returns-then-branch : goal.returns-then-branch
 returns-then-branch g c = record {

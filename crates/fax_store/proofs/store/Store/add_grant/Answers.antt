@@ -6,8 +6,7 @@ use Rattle.fax_store.specs.Grant.{with_placed, with_one_more_grant}
 use Rattle.fax_tables.specs.Meta.{meta_of, with_meta}
 use Rattle.fax_tables.specs.Tables.{IsLawfulMeta}
 use Rattle.fax_store.specs.Work.{Steps}
-use Rattle.fax_store.proofs.WorkLemmas.{refused_as}
-use Rattle.fax_store.proofs.FrameLemmas.{reads_on, runs_of, runs_then, writes_if_any, writes_if_refused, writes_if_steps}
+use Rattle.fax_store.proofs.FrameLemmas.{reads_on, refused_as, runs_of, runs_then, writes_if_any, writes_if_refused, writes_if_steps}
 use Rattle.fax_store.proofs.store.Store.add_grant.Goals as goal
 
 pub returns : goal.returns

@@ -1,12 +1,8 @@
 use Rattle.std.proofs.Common.{◌≡◌, true, false, sym, ◌∙◌, rules}
 use Rattle.fax_core.specs.Machine.{is_down, with_mark}
 use Rattle.fax_value.specs.Name.{IsName}
-use Rattle.fax_schema.specs.declared.statements.TheConstants.{INSERT_DOWN}
 use Rattle.fax_store.proofs.ModemLemmas as modems
-use Rattle.fax_store.proofs.WorkLemmas.{move_by, only_unavailable}
-use Rattle.fax_store.proofs.StatementLemmas.{edit_text}
-use Rattle.fax_schema.proofs.ModemTexts as texts
-use Rattle.fax_store.proofs.FrameLemmas.{inserts_with, reads_on, runs_of, runs_then}
+use Rattle.fax_store.proofs.FrameLemmas.{inserts_with, move_by, only_unavailable, reads_on, runs_of, runs_then}
 use Rattle.fax_store.proofs.store.Store.add_mark.Goals as goal
 
 pub returns-then-branch : goal.returns-then-branch
@@ -23,16 +19,13 @@ returns g c =
     let modem = c.args.modem.now in
     let lawful : IsName modem = search rules in
     let reads = reads_on g.S.Store c.in_ok-is_down.ensures.leaves c.in_ok-is_down.ensures.answers in
-    let inserts = inserts_with g.S.Store _ _ _ INSERT_DOWN.now _ (modems.params modem) (search rules) c.insert.ensures in
+    let inserts = inserts_with g.S.Store _ _ _ _ _ (modems.params modem) (search rules) c.insert.ensures in
     record {
       leaves = runs_then g.S.Store (runs_of g.S.Store c.in_ok-is_down.ensures.leaves) c.insert.ensures.leaves;
       written = λ m₀ m k₀ k works s. let first = reads m₀ m k₀ k works (inserts.leaves.served s) in
-          move_by _ _ INSERT_DOWN.now (modems.params modem) 6 c.insert.result m₀ m (with_mark modem true m) k₀ k k inserts.leaves.served (λ _. first.1) s
+          move_by _ _ _ (modems.params modem) 6 c.insert.result m₀ m (with_mark modem true m) k₀ k k inserts.leaves.served (λ _. first.1) s
           (inserts.ran s.clean) (inserts.left s.clean) (λ means has. modems.mark_added modem _ _ m k means lawful (sym first.0 ∙ c.if-branch.false) has);
       cause = λ m₀ m k₀ k works s named. let first = reads m₀ m k₀ k works (inserts.leaves.served s) in
-          only_unavailable _ _ INSERT_DOWN.now (modems.params modem) c.insert.result (λ m k. is_down modem m ≡ false) inserts.leaves.served inserts.told
+          only_unavailable _ _ _ (modems.params modem) c.insert.result (λ m k. is_down modem m ≡ false) inserts.leaves.served inserts.told
           (λ m k means free e h. modems.mark_goes modem _ _ m k means free e h) m₀ m k₀ k (λ _. first.1) s (sym first.0 ∙ c.if-branch.false);
     }
-
-pub insert-requires : goal.insert-requires
-insert-requires g c = edit_text INSERT_DOWN.now _ tt texts.insert_down

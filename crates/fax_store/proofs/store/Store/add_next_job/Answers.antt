@@ -7,8 +7,7 @@ use Rattle.fax_tables.specs.Meta.{with_meta}
 use Rattle.fax_tables.specs.declared.meta.Meta.{Meta}
 use Rattle.fax_tables.specs.Tables.{IsLawfulMeta}
 use Rattle.fax_store.specs.Work.{Steps}
-use Rattle.fax_store.proofs.WorkLemmas.{refused_as}
-use Rattle.fax_store.proofs.FrameLemmas.{runs_then, writes_if_steps, writes_if_where_refused}
+use Rattle.fax_store.proofs.FrameLemmas.{refused_as, runs_then, writes_if_steps, writes_if_where_refused}
 use Rattle.fax_store.proofs.store.Store.add_next_job.Goals as goal
 
 pub returns : goal.returns

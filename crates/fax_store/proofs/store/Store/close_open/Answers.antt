@@ -1,24 +1,10 @@
 use Rattle.std.proofs.Common.{rules}
 use Rattle.fax_store.specs.Calls.{shown}
-use Rattle.fax_schema.specs.declared.statements.TheConstants.{SHUT_GRANT, DELETE_HOLD}
 use Rattle.fax_store.specs.Grant.{with_closed}
 use Rattle.fax_tables.proofs.TablesLemmas.{calls, calls_of}
 use Rattle.fax_store.proofs.GrantLemmas.{close_counted, close_params, grant_closed}
-use Rattle.fax_store.proofs.FrameLemmas.{runs_then, writes_where_refused, edits_with}
-use Rattle.fax_store.proofs.WorkLemmas.{inside_by, moves_by, ok_as, step_of}
-use Rattle.fax_schema.proofs.GrantTexts as texts
-use Rattle.fax_store.proofs.StatementLemmas.{edit_text}
+use Rattle.fax_store.proofs.FrameLemmas.{edits_with, inside_by, moves_by, ok_as, runs_then, step_of, writes_where_refused}
 use Rattle.fax_store.proofs.store.Store.close_open.Goals as goal
-
-pub run-requires : goal.run-requires
-run-requires g c = edit_text SHUT_GRANT.now _ tt texts.shut_grant
-
-pub run-requires-2 : goal.run-requires-2
-run-requires-2 g c = edit_text DELETE_HOLD.now _ tt texts.delete_hold
-
-pub returns-in_err-run : goal.returns-in_err-run
-returns-in_err-run g c =
-    writes_where_refused g.S.Store _ c.from_residual.ensures.1 c.in_err-run.ensures.leaves c.in_err-run.ensures.cause
 
 pub returns-in_err-run-2 : goal.returns-in_err-run-2
 returns-in_err-run-2 g c =
@@ -29,8 +15,8 @@ pub returns : goal.returns
 returns g c =
     let n = c.args.number in
     let params = close_params n in
-    let shut_one = edits_with g.S.Store _ _ _ SHUT_GRANT.now _ params (search rules) c.in_ok-run.ensures in
-    let freed = edits_with g.S.Store _ _ _ DELETE_HOLD.now _ params (search rules) c.in_ok-run-2.ensures in
+    let shut_one = edits_with g.S.Store _ _ _ _ _ params (search rules) c.in_ok-run.ensures in
+    let freed = edits_with g.S.Store _ _ _ _ _ params (search rules) c.in_ok-run-2.ensures in
     let before = runs_then g.S.Store shut_one.leaves freed.leaves in
     let runs = runs_then g.S.Store before c.set_calls.ensures.leaves in
     record {

@@ -1,8 +1,6 @@
-use Rattle.std.proofs.Common.{◌≡◌, ◌+◌, ◌<◌, ◌^◌, OnOk, subst, sym, ap, ◌∙◌}
-use Rattle.sqlite.specs.Held.{state}
+use Rattle.std.proofs.Common.{◌≡◌, ◌+◌, ◌<◌, ◌^◌, subst, sym, ap, ◌∙◌}
 use Rattle.fax_core.specs.Queue.{job_numbered}
-use Rattle.fax_store.specs.Adopt.{CanBeCalled}
-use Rattle.fax_store.specs.Grant.{SetsCalls, with_count}
+use Rattle.fax_store.specs.Grant.{with_count}
 use Rattle.fax_store.proofs.CallLemmas.{has_calls, set_still, set_then}
 use Rattle.fax_store.proofs.HeldLemmas.{job_low}
 use Rattle.fax_store.proofs.WorkLemmas.{ok_as, refused_as}
@@ -13,9 +11,8 @@ returns-in_err-job-clause-cause g c n count is can has small clean = refused_as 
 
 pub returns-in_err-dial-clause-cause : goal.returns-in_err-dial-clause-cause
 returns-in_err-dial-clause-cause g c n count is can has small clean =
-    let old = state g.S.Store c.args.self.now.conn in
     let job : c.in_ok-job.job ≡ n = c.in_ok-job.ensures.found n is can.low in
-    refused_as c.from_residual-in_err-dial.result c.in_err-dial.field-0.0 c.from_residual-in_err-dial.ensures.1 (c.in_err-dial.ensures.cause has.tables (subst (CanBeCalled old.now) (sym job) can) clean)
+    refused_as c.from_residual-in_err-dial.result c.in_err-dial.field-0.0 c.from_residual-in_err-dial.ensures.1 (c.in_err-dial.ensures.cause has.tables (rw job can) clean)
 
 pub returns-clause-cause : goal.returns-clause-cause
 returns-clause-cause g c n count is can has small clean =
@@ -24,14 +21,10 @@ returns-clause-cause g c n count is can has small clean =
 
 pub returns-clause-counted : goal.returns-clause-counted
 returns-clause-counted g c m k j count rows is found few has clean =
-    let old = state g.S.Store c.args.self.now.conn in
-    let mid = state g.S.Store c.dial_of.new.self.conn in
-    let new = state g.S.Store c.add_call.new.self.conn in
     let at_mid = c.add_call.ensures.counts.clean clean in
     let job : c.in_ok-job.job ≡ j.number = c.in_ok-job.ensures.found j.number is (job_low rows.0 m k rows.1 j.number j found) in
     let dial = c.in_ok-dial.ensures.answers m k j has.tables rows (ap (λ n. job_numbered n m) job ∙ found) at_mid in
-    let first = set_still old mid count has (c.in_ok-dial.ensures.leaves.reads has.tables at_mid) in
+    let first = set_still _ _ count has (c.in_ok-dial.ensures.leaves.reads has.tables at_mid) in
     let low = subst (λ d. count d + 1 < 2 ^ 32) (sym dial) few in
-    let added = c.add_call.ensures.counted count (has_calls old mid count first) low clean in
-    ok_as c.add_call.result (λ set. set_then old mid new count (with_count j.dial (count j.dial + 1) count) first set)
-    (subst (λ d. OnOk c.add_call.result (SetsCalls mid new (with_count d (count d + 1) count))) dial added)
+    let added = c.add_call.ensures.counted count (has_calls _ _ count first) low clean in
+    ok_as c.add_call.result (set_then _ _ _ count (with_count j.dial (count j.dial + 1) count) first) (rw dial at added)

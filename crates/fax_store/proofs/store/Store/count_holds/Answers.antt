@@ -1,17 +1,12 @@
 use Rattle.std.proofs.Common.{rules, ◌<◌, ◌^◌, length, sym, subst}
 use Rattle.sqlite.specs.Effect.{Database}
 use Rattle.sqlite.specs.Held.{state}
-use Rattle.fax_store.specs.Adopt.{AreCallable, AreOfJobs, held_to}
-use Rattle.fax_store.specs.Grant.{SetsCalls}
+use Rattle.fax_store.specs.Adopt.{AreCallable, AreOfJobs}
 use Rattle.fax_tables.proofs.CreateLemmas.{commit_kept}
 use Rattle.fax_store.proofs.CallLemmas.{has_calls, no_calls, set_still, set_then}
 use Rattle.fax_store.proofs.HeldLemmas.{held_callable, held_counted, held_few, held_jobs, none_small, rows_still}
-use Rattle.fax_schema.proofs.StatementTexts.{select_held}
 use Rattle.fax_store.proofs.WorkLemmas.{both_as, ok_as}
 use Rattle.fax_store.proofs.store.Store.count_holds.Goals as goal
-
-pub show-requires : goal.show-requires
-show-requires g c = select_held.plain
 
 pub returns-clause-leaves : goal.returns-clause-leaves
 returns-clause-leaves g c = record {
@@ -26,18 +21,15 @@ returns-clause-leaves g c = record {
 
 pub returns-clause-counted : goal.returns-clause-counted
 returns-clause-counted g c m k has clean mean =
-    let old = state g.S.Store c.args.self.now.conn in
-    let mid = state g.S.Store c.show.new.self.conn in
-    let new = state g.S.Store c.count_rows.new.self.conn in
     let at_mid = c.count_rows.ensures.counts.clean clean in
     let same = c.in_ok-held.ensures.leaves.reads has.schema_is at_mid in
-    let first = set_still old mid (λ _. 0) (no_calls old has) same in
+    let first = set_still _ _ (λ _. 0) (no_calls _ has) same in
     let rows = c.in_ok-held.held.items in
     let shown = c.in_ok-held.ensures.found at_mid in
-    let jobs = subst (AreOfJobs m) (sym c.as_slice.ensures.value) (held_jobs old mid m k has.schema_is mean rows shown) in
-    let few = subst (λ rs. length rs < 2 ^ 32) (sym c.as_slice.ensures.value) (held_few old mid m k has.schema_is mean rows shown) in
-    ok_as c.count_rows.result (λ set. held_counted old mid m k has.schema_is mean rows shown mid new same.0.now_is (subst (λ rs. SetsCalls mid new (held_to m rs)) c.as_slice.ensures.value set))
-    (c.count_rows.ensures.counted m k (rows_still old mid m k (λ _. 0) first mean) jobs few (has_calls old mid (λ _. 0) first) clean)
+    let jobs = subst (AreOfJobs m) (sym c.as_slice.ensures.value) (held_jobs _ _ m k has.schema_is mean rows shown) in
+    let few = subst (λ rs. length rs < 2 ^ 32) (sym c.as_slice.ensures.value) (held_few _ _ m k has.schema_is mean rows shown) in
+    ok_as c.count_rows.result (λ set. held_counted _ _ m k has.schema_is mean rows shown _ _ same.0.now_is (rw c.as_slice.ensures.value at set))
+    (c.count_rows.ensures.counted m k (rows_still _ _ m k (λ _. 0) first mean) jobs few (has_calls _ _ (λ _. 0) first) clean)
 
 pub returns-clause-cause : goal.returns-clause-cause
 returns-clause-cause g c has clean can =

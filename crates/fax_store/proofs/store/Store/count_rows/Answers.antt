@@ -1,4 +1,4 @@
-use Rattle.std.proofs.Common.{◌≡◌, ◌+◌, ◌<◌, ◌≤◌, ◌++◌, List, [], ◌∷◌, length, take, sym, ap, subst, ◌∙◌, rules}
+use Rattle.std.proofs.Common.{◌≡◌, ◌+◌, ◌<◌, ◌≤◌, ◌++◌, List, [], ◌∷◌, length, take, sym, ap, subst, ◌∙◌, rules, false}
 use Rattle.std.proofs.lemmas.List.{take_all, take_more}
 use Rattle.sqlite.specs.Held.{state}
 use Rattle.sqlite.specs.Order.{Row}
@@ -9,7 +9,6 @@ use Rattle.fax_store.proofs.CallLemmas.{has_calls, sets_as, set_then}
 use Rattle.fax_store.proofs.HeldLemmas.{called_still, held_first, held_more, rows_still}
 use Rattle.fax_store.proofs.StopLemmas.{withholds_then}
 use Rattle.fax_store.proofs.WorkLemmas.{refused_as}
-use Rattle.std.specs.Prelude.{false}
 use Rattle.fax_store.proofs.store.Store.count_rows.Goals as goal
 
 pub returns-in_err-count_hold-clause-cause : goal.returns-in_err-count_hold-clause-cause

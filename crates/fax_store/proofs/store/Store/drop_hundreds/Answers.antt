@@ -1,21 +1,15 @@
-use Rattle.std.proofs.Common.{Ok}
 use Rattle.fax_store.proofs.FloorLemmas.{thins_err, thins_not, thins_ok, thins_then}
 use Rattle.fax_store.proofs.store.Store.drop_hundreds.Goals as goal
 
 pub loop-init : goal.loop-init
-loop-init g c = thins_not g.S.Store c.args.client.now c.args.floor c.args.self.now (tt {0})
+loop-init g c = thins_not g.S.Store (tt {0})
 
 pub returns-in_err-drop_hundred-clause-thins : goal.returns-in_err-drop_hundred-clause-thins
 returns-in_err-drop_hundred-clause-thins g c =
-    thins_then g.S.Store c.args.client.now c.args.floor c.args.self.now c.loop.self c.drop_hundred.new.self (tt {0}) c.from_residual.result c.loop.invariant
-    (thins_err g.S.Store c.args.client.now c.args.floor c.loop.self c.drop_hundred.new.self c.in_err-drop_hundred.field-0.0 c.from_residual.result c.from_residual.ensures.1 c.in_err-drop_hundred.ensures.thins)
+    thins_then g.S.Store c.loop.invariant (thins_err g.S.Store c.from_residual.result c.from_residual.ensures.1 c.in_err-drop_hundred.ensures.thins)
 
 pub returns-then-not-branch-clause-thins : goal.returns-then-not-branch-clause-thins
-returns-then-not-branch-clause-thins g c =
-    thins_then g.S.Store c.args.client.now c.args.floor c.args.self.now c.loop.self c.drop_hundred.new.self (tt {0}) (Ok (tt {0})) c.loop.invariant
-    (thins_ok g.S.Store c.args.client.now c.args.floor c.loop.self c.drop_hundred.new.self c.in_ok-drop_hundred.field-0 (tt {0}) c.in_ok-drop_hundred.ensures.thins)
+returns-then-not-branch-clause-thins g c = thins_then g.S.Store c.loop.invariant (thins_ok g.S.Store (tt {0}) c.in_ok-drop_hundred.ensures.thins)
 
 pub loop-preserved : goal.loop-preserved
-loop-preserved g c =
-    thins_then g.S.Store c.args.client.now c.args.floor c.args.self.now c.loop.self c.drop_hundred.new.self (tt {0}) (Ok (tt {0})) c.loop.invariant
-    (thins_ok g.S.Store c.args.client.now c.args.floor c.loop.self c.drop_hundred.new.self c.in_ok-drop_hundred.field-0 (tt {0}) c.in_ok-drop_hundred.ensures.thins)
+loop-preserved g c = thins_then g.S.Store c.loop.invariant (thins_ok g.S.Store (tt {0}) c.in_ok-drop_hundred.ensures.thins)

@@ -1,5 +1,4 @@
-use Rattle.std.proofs.Common.{◌≡◌, ◌-◌, Err, refl, sym, ap, ◌∙◌}
-use Rattle.std.specs.Option.{option_map}
+use Rattle.std.proofs.Common.{◌≡◌, ◌-◌, Err, refl, sym, ap, ◌∙◌, option_map}
 use Rattle.std.proofs.lemmas.Option.{none-some}
 use Rattle.fax_core.specs.Job.{fields_of}
 use Rattle.fax_core.specs.Queue.{job_numbered}
@@ -7,8 +6,7 @@ use Rattle.fax_core.specs.State.{calls_to}
 use Rattle.fax_job.specs.declared.job.JobFields.{JobFields}
 use Rattle.fax_store.specs.Grant.{IsCalled, with_closed}
 use Rattle.fax_store.proofs.CountLemmas.{held_job}
-use Rattle.fax_store.proofs.FrameLemmas.{reads_on, runs_of, runs_then}
-use Rattle.fax_store.proofs.WorkLemmas.{goes_on, refused_steps, there_as}
+use Rattle.fax_store.proofs.FrameLemmas.{goes_on, reads_on, refused_steps, runs_of, runs_then, there_as}
 use Rattle.fax_store.proofs.store.Store.end_call.Goals as goal
 
 pub returns-in_default-clause-written : goal.returns-in_default-clause-written

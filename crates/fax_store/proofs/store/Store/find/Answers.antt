@@ -1,6 +1,5 @@
 use Rattle.std.proofs.Common.{rules}
-use Rattle.fax_tables.proofs.ResultLemmas.{popped}
-use Rattle.fax_store.proofs.FrameLemmas.{finds_as}
+use Rattle.fax_store.proofs.FrameLemmas.{finds_as, popped}
 use Rattle.fax_store.proofs.store.Store.find.Goals as goal
 
 pub returns : goal.returns

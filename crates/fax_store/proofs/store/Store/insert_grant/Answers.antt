@@ -1,13 +1,11 @@
-use Rattle.std.proofs.Common.{◌≡◌, ◌+◌, ◌<◌, refl, sym, ap, ◌∙◌, arith, rules}
-use Rattle.std.specs.Option.{option_map}
+use Rattle.std.proofs.Common.{◌≡◌, ◌+◌, ◌<◌, refl, sym, ap, ◌∙◌, arith, rules, option_map}
 use Rattle.std.proofs.lemmas.Option.{none-some}
 use Rattle.fax_core.specs.Job.{fields_of}
 use Rattle.fax_core.specs.Queue.{job_numbered}
 use Rattle.fax_core.specs.State.{calls_to}
 use Rattle.fax_job.specs.declared.job.JobFields.{JobFields}
 use Rattle.fax_store.proofs.CountLemmas.{calls_few}
-use Rattle.fax_store.proofs.WorkLemmas.{refused_as, there_as}
-use Rattle.fax_store.proofs.FrameLemmas.{reads_on, runs_of, runs_then}
+use Rattle.fax_store.proofs.FrameLemmas.{reads_on, refused_as, runs_of, runs_then, there_as}
 use Rattle.fax_store.proofs.store.Store.insert_grant.Goals as goal
 
 pub returns-in_default : goal.returns-in_default

@@ -1,18 +1,14 @@
-use Rattle.std.proofs.Common.{◌≡◌, [], ◌∷◌, subst, rules}
-use Rattle.std.specs.String.{string_bytes}
+use Rattle.std.proofs.Common.{◌≡◌, [], ◌∷◌, subst, rules, string_bytes}
 use Rattle.sqlite.specs.Order.{Row}
 use Rattle.sqlite.specs.declared.types.Value.TheVariants.{Text}
 use Rattle.fax_core.specs.Job.{job_of}
 use Rattle.fax_job.specs.declared.job.JobFields.{JobFields}
-use Rattle.fax_schema.specs.declared.statements.TheConstants.{INSERT_JOB}
 use Rattle.fax_tables.specs.Job.{IsFormed, IsLawfulJob, job_shown}
 use Rattle.fax_store.specs.Calls.{WritesIf}
 use Rattle.fax_store.specs.Job.{IsNewJob, with_placed}
 use Rattle.fax_tables.specs.Row.{number}
 use Rattle.fax_store.proofs.JobLemmas.{job_put, job_goes, lawful_of_fields}
 use Rattle.fax_tables.proofs.RowLemmas.{shown_by}
-use Rattle.fax_store.proofs.StatementLemmas.{edit_text}
-use Rattle.fax_schema.proofs.StatementTexts as texts
 use Rattle.fax_store.proofs.FrameLemmas.{inserts_with, writes_if_by}
 use Rattle.fax_store.proofs.store.Store.insert_job.Goals as goal
 
@@ -24,20 +20,8 @@ returns g c =
     let shown : params ≡ job_shown j = shown_by j _ _ _ _ _ _ _ _ _ _ _ _ _ _ _ _ _ _
     c.text.ensures.text c.as_str.ensures.text c.as_str-2.ensures.text c.text-2.ensures.text c.in_ok-extra.ensures.spelled c.seconds.ensures.seconds c.killtime_number.ensures.number
     c.from.ensures c.from-2.ensures c.from-3.ensures c.from-4.ensures c.from-5.ensures c.from-6.ensures c.from-7.ensures c.from-8.ensures c.from-9.ensures c.phase_number.ensures c.wish_number.ensures in
-    let formed : IsFormed j = record {
-      dial = record { formed = search rules; utf8 = search rules };
-      modem = record { formed = search rules; utf8 = search rules };
-      jobtag = record { formed = search rules; utf8 = search rules };
-      status = record { formed = search rules; utf8 = search rules };
-      extra = c.in_ok-extra.ensures.lawful;
-      tts = search rules;
-      killtime = search rules;
-      priority = search rules;
-    } in
+    let formed : IsFormed j = search rules in
     let lawful : IsLawfulJob (job_of j) = lawful_of_fields j (search rules) formed in
-    let inserts = inserts_with g.S.Store _ _ _ INSERT_JOB.now params (job_shown j) shown (inserts_with g.S.Store _ _ _ _ _ _ (search rules) c.insert.ensures) in
+    let inserts = inserts_with g.S.Store _ _ _ _ params (job_shown j) shown (inserts_with g.S.Store _ _ _ _ _ _ (search rules) c.insert.ensures) in
     subst (λ (f : JobFields). WritesIf g.S.Store c.args.self.now c.insert.new.self c.insert.result (λ m k. IsNewJob (job_of f) m) (with_placed (job_of f)) (λ k. k)) same
-    (writes_if_by g.S.Store _ _ _ INSERT_JOB.now (job_shown j) 0 _ _ _ inserts (λ m k means has. job_put _ _ m k means j lawful has) (λ m k means free e h. job_goes _ _ m k means j free e h))
-
-pub insert-requires : goal.insert-requires
-insert-requires g c = edit_text INSERT_JOB.now _ tt texts.insert_job
+    (writes_if_by g.S.Store _ _ _ _ (job_shown j) 0 _ _ _ inserts (λ m k means has. job_put _ _ m k means j lawful has) (λ m k means free e h. job_goes _ _ m k means j free e h))

@@ -1,24 +1,19 @@
 use Rattle.std.proofs.Common.{refl, rules}
 use Rattle.fax_core.specs.Job.{fields_of}
-use Rattle.fax_schema.specs.declared.statements.TheConstants.{SELECT_JOB}
-use Rattle.fax_schema.proofs.StatementTexts.{select_job}
 use Rattle.fax_store.proofs.JobLemmas.{job_keys, job_stands}
-use Rattle.fax_store.proofs.FoundLemmas.{looks_err, looks_none, looks_up, queries_with}
+use Rattle.fax_store.proofs.FoundLemmas.{looks_err, looks_none, looks_up}
 use Rattle.fax_store.proofs.store.Store.job.Goals as goal
 
 pub returns-in-None : goal.returns-in-None
-returns-in-None g c = looks_none g.S.Store _ _ _ _ _ _ _ _ _ (job_keys g.S.Store c.args.job c.args.self.now c.find.new.self) fields_of _ (λ m. refl) _ (queries_with g.S.Store _ _ _ SELECT_JOB.now _ _ (search rules) c.in_ok-row.ensures) c.in-None.is
+returns-in-None g c = looks_none g.S.Store (job_keys g.S.Store c.args.job _ _) fields_of (λ m. refl) (search rules) c.in_ok-row.ensures c.in-None.is
 
 pub returns-in_ok-job_in-in-Some : goal.returns-in_ok-job_in-in-Some
 returns-in_ok-job_in-in-Some g c =
-    looks_up g.S.Store _ _ _ _ _ _ _ _ _ (job_keys g.S.Store c.args.job c.args.self.now c.find.new.self) fields_of _ (λ m. refl) _ (queries_with g.S.Store _ _ _ SELECT_JOB.now _ _ (search rules) c.in_ok-row.ensures) c.in-Some.row c.in-Some.is _
+    looks_up g.S.Store (job_keys g.S.Store c.args.job _ _) fields_of (λ m. refl) (search rules) c.in_ok-row.ensures c.in-Some.is
     (λ j is lawful. c.in_ok-job_in-in-Some.ensures.found (fields_of j) is lawful.limits lawful.formed)
     (λ db ours now found. job_stands c.args.job _ _ db ours now c.in-Some.row c.in_ok-job_in-in-Some.field-0 found c.in_ok-job_in-in-Some.ensures.stands)
 
 pub returns-in_err-job_in-in-Some : goal.returns-in_err-job_in-in-Some
 returns-in_err-job_in-in-Some g c =
-    looks_err g.S.Store _ _ _ _ _ _ _ _ _ (job_keys g.S.Store c.args.job c.args.self.now c.find.new.self) fields_of _ (λ m. refl) _ (queries_with g.S.Store _ _ _ SELECT_JOB.now _ _ (search rules) c.in_ok-row.ensures) c.in-Some.row c.in-Some.is c.from_residual-in_err-job_in-in-Some.result c.in_err-job_in-in-Some.field-0.0
-    c.from_residual-in_err-job_in-in-Some.ensures.1 (λ j is lawful. c.in_err-job_in-in-Some.ensures.found (fields_of j) is lawful.limits lawful.formed)
-
-pub find-requires : goal.find-requires
-find-requires g c = select_job.plain
+    looks_err g.S.Store (job_keys g.S.Store c.args.job _ _) fields_of (λ m. refl) (search rules) c.in_ok-row.ensures c.in-Some.is
+    c.from_residual-in_err-job_in-in-Some.result c.from_residual-in_err-job_in-in-Some.ensures.1 (λ j is lawful. c.in_err-job_in-in-Some.ensures.found (fields_of j) is lawful.limits lawful.formed)

@@ -1,7 +1,6 @@
 use Rattle.std.proofs.Common.{sym, ◌∙◌, rules}
 use Rattle.std.proofs.lemmas.Result.{IfOk-weaker}
 use Rattle.fax_store.proofs.MetaLemmas.{meta_found, meta_stands}
-use Rattle.fax_schema.proofs.StatementTexts.{select_meta}
 use Rattle.fax_store.proofs.FrameLemmas.{finds_as}
 use Rattle.fax_store.proofs.store.Store.meta.Goals as goal
 
@@ -24,6 +23,3 @@ returns-in-None g c = record {
   stands = search rules;
   lawful = tt;
 }
-
-pub find-requires : goal.find-requires
-find-requires g c = select_meta.plain

@@ -1,44 +1,42 @@
-use Rattle.std.proofs.Common.{[], ◌∷◌, rules}
+use Rattle.std.proofs.Common.{[], ◌∷◌, ◌&&◌, true, ap, ap₂, ◌∙◌, rules}
+use Rattle.std.proofs.Math.Bool.{and-true}
 use Rattle.fax_store.specs.declared.candidates.Front.TheVariants.{First, Number, Time, Priority}
-use Rattle.fax_schema.specs.declared.statements.TheConstants.{SELECT_FIRST, SELECT_BEHIND_NUMBER, SELECT_BEHIND_TIME, SELECT_BEHIND_PRIORITY}
 use Rattle.fax_tables.specs.Row.{number}
-use Rattle.fax_store.proofs.CandidateLemmas.{answers_page, params, first_found, number_found, time_found, priority_found}
-use Rattle.fax_schema.proofs.StatementTexts.{number_tests, other_tests, priority_tests, time_tests, select_first, select_behind_number, select_behind_time, select_behind_priority}
+use Rattle.fax_schema.proofs.CompareLemmas.{is_number, more_than}
+use Rattle.fax_schema.proofs.StatementTexts.{number_tests, other_tests, priority_tests, time_tests}
+use Rattle.fax_schema.proofs.StatementTexts.{select_behind_number, select_behind_priority, select_behind_time, select_first}
+use Rattle.fax_store.proofs.CandidateLemmas.{answers_page, is_not}
 use Rattle.fax_store.proofs.store.Store.page.Goals as goal
 
 pub returns-in-First : goal.returns-in-First
 returns-in-First g c =
-    answers_page g.S.Store c.args.asked.now c.args.most _ _ _ SELECT_FIRST.now _ (params c.args.asked.now c.args.most [] other_tests) First _ c.in-First.is
-    (search rules) c.show.ensures (λ m k means rows h. first_found c.args.asked.now c.args.most _ _ m k means rows h)
+    let asked = c.args.asked.now in
+    answers_page g.S.Store asked c.args.most [] other_tests First select_first (λ j. ap (λ b. b && true) (is_not asked.but j)) c.in-First.is
+    (search rules) c.show.ensures
 
 pub returns-in-Number : goal.returns-in-Number
 returns-in-Number g c =
-    answers_page g.S.Store c.args.asked.now c.args.most _ _ _ SELECT_BEHIND_NUMBER.now _
-    (params c.args.asked.now c.args.most (number c.in-Number.priority ∷ number c.in-Number.tts ∷ number c.in-Number.job ∷ []) number_tests)
-    (Number c.in-Number.priority c.in-Number.tts c.in-Number.job) _ c.in-Number.is (search rules) c.show-in-Number.ensures
-    (λ m k means rows h. number_found c.args.asked.now c.args.most _ _ m k means rows c.in-Number.priority c.in-Number.tts c.in-Number.job h)
+    let asked = c.args.asked.now in
+    let p = c.in-Number.priority in
+    let s = c.in-Number.tts in
+    let n = c.in-Number.job in
+    answers_page g.S.Store asked c.args.most (number p ∷ number s ∷ number n ∷ []) number_tests (Number p s n) select_behind_number
+    (λ j. ap₂ ◌&&◌ (is_not asked.but j) (ap₂ ◌&&◌ (is_number j.priority p) (ap₂ ◌&&◌ (is_number j.tts s) (ap (λ b. b && true) (more_than j.number n) ∙ and-true _))))
+    c.in-Number.is (search rules) c.show-in-Number.ensures
 
 pub returns-in-Time : goal.returns-in-Time
 returns-in-Time g c =
-    answers_page g.S.Store c.args.asked.now c.args.most _ _ _ SELECT_BEHIND_TIME.now _
-    (params c.args.asked.now c.args.most (number c.in-Time.priority ∷ number c.in-Time.tts ∷ []) time_tests) (Time c.in-Time.priority c.in-Time.tts) _
+    let asked = c.args.asked.now in
+    let p = c.in-Time.priority in
+    let s = c.in-Time.tts in
+    answers_page g.S.Store asked c.args.most (number p ∷ number s ∷ []) time_tests (Time p s) select_behind_time
+    (λ j. ap₂ ◌&&◌ (is_not asked.but j) (ap₂ ◌&&◌ (is_number j.priority p) (ap (λ b. b && true) (more_than j.tts s) ∙ and-true _)))
     c.in-Time.is (search rules) c.show-in-Time.ensures
-    (λ m k means rows h. time_found c.args.asked.now c.args.most _ _ m k means rows c.in-Time.priority c.in-Time.tts h)
 
 pub returns-in-Priority : goal.returns-in-Priority
 returns-in-Priority g c =
-    answers_page g.S.Store c.args.asked.now c.args.most _ _ _ SELECT_BEHIND_PRIORITY.now _
-    (params c.args.asked.now c.args.most (number c.in-Priority.priority ∷ []) priority_tests) (Priority c.in-Priority.priority) _ c.in-Priority.is
-    (search rules) c.show-in-Priority.ensures (λ m k means rows h. priority_found c.args.asked.now c.args.most _ _ m k means rows c.in-Priority.priority h)
-
-pub show-requires : goal.show-requires
-show-requires g c = select_first.plain
-
-pub show-requires-in-Number : goal.show-requires-in-Number
-show-requires-in-Number g c = select_behind_number.plain
-
-pub show-requires-in-Time : goal.show-requires-in-Time
-show-requires-in-Time g c = select_behind_time.plain
-
-pub show-requires-in-Priority : goal.show-requires-in-Priority
-show-requires-in-Priority g c = select_behind_priority.plain
+    let asked = c.args.asked.now in
+    let p = c.in-Priority.priority in
+    answers_page g.S.Store asked c.args.most (number p ∷ []) priority_tests (Priority p) select_behind_priority
+    (λ j. ap₂ ◌&&◌ (is_not asked.but j) (ap (λ b. b && true) (more_than j.priority p) ∙ and-true _)) c.in-Priority.is
+    (search rules) c.show-in-Priority.ensures

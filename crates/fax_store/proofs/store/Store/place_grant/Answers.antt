@@ -1,27 +1,17 @@
 use Rattle.std.proofs.Common.{refl, ◌∙◌, rules}
 use Rattle.fax_store.specs.Calls.{shown}
 use Rattle.fax_value.specs.Name.{IsName}
-use Rattle.fax_schema.specs.declared.statements.TheConstants.{INSERT_GRANT, INSERT_HOLD}
 use Rattle.fax_store.specs.Grant.{with_placed}
 use Rattle.fax_tables.proofs.TablesLemmas.{calls, calls_of}
 use Rattle.fax_store.proofs.GrantLemmas.{hold_params, grant_params, hold_goes, grant_counted, grant_put, grant_goes}
-use Rattle.fax_store.proofs.FrameLemmas.{runs_then, writes_if_where_refused, inserts_with}
-use Rattle.fax_store.proofs.WorkLemmas.{inside_by, moves_by, ok_as, refused_as}
-use Rattle.fax_schema.proofs.GrantTexts as texts
-use Rattle.fax_store.proofs.StatementLemmas.{edit_text}
+use Rattle.fax_store.proofs.FrameLemmas.{inserts_with, inside_by, moves_by, ok_as, refused_as, runs_then, writes_if_where_refused}
 use Rattle.fax_store.proofs.store.Store.place_grant.Goals as goal
-
-pub insert-requires : goal.insert-requires
-insert-requires g c = edit_text INSERT_HOLD.now _ tt texts.insert_hold
-
-pub insert-requires-2 : goal.insert-requires-2
-insert-requires-2 g c = edit_text INSERT_GRANT.now _ tt texts.insert_grant
 
 pub returns-in_err-insert : goal.returns-in_err-insert
 returns-in_err-insert g c =
     let told = c.from_residual.ensures.1 in
     let grant = c.args.grant.now in
-    let put = inserts_with g.S.Store _ _ _ INSERT_HOLD.now _ (hold_params grant) (search rules) c.in_err-insert.ensures in
+    let put = inserts_with g.S.Store _ _ _ _ _ (hold_params grant) (search rules) c.in_err-insert.ensures in
     writes_if_where_refused g.S.Store _ told put.leaves (λ m₀ m k₀ k works s fit.
     let why = put.told s.clean in
     refused_as c.from_residual.result c.in_err-insert.field-0.0 told (why.2 ∙ hold_goes grant _ _ m k ((works (put.leaves.served s)).goes_on refl).means fit.1 why.0 why.1))
@@ -30,8 +20,8 @@ pub returns-in_err-insert-2 : goal.returns-in_err-insert-2
 returns-in_err-insert-2 g c =
     let told = c.from_residual-in_err-insert-2.ensures.1 in
     let grant = c.args.grant.now in
-    let put_hold = inserts_with g.S.Store _ _ _ INSERT_HOLD.now _ (hold_params grant) (search rules) c.in_ok-insert.ensures in
-    let put = inserts_with g.S.Store _ _ _ INSERT_GRANT.now _ (grant_params grant) (search rules) c.in_err-insert-2.ensures in
+    let put_hold = inserts_with g.S.Store _ _ _ _ _ (hold_params grant) (search rules) c.in_ok-insert.ensures in
+    let put = inserts_with g.S.Store _ _ _ _ _ (grant_params grant) (search rules) c.in_err-insert-2.ensures in
     writes_if_where_refused g.S.Store _ told (runs_then g.S.Store put_hold.leaves put.leaves) (λ m₀ m k₀ k works s fit.
     let at_mid = put.leaves.served s in
     let why = put.told s.clean in
@@ -41,8 +31,8 @@ returns-in_err-insert-2 g c =
 pub returns : goal.returns
 returns g c =
     let grant = c.args.grant.now in
-    let put_hold = inserts_with g.S.Store _ _ _ INSERT_HOLD.now _ (hold_params grant) (search rules) c.in_ok-insert.ensures in
-    let put = inserts_with g.S.Store _ _ _ INSERT_GRANT.now _ (grant_params grant) (search rules) c.in_ok-insert-2.ensures in
+    let put_hold = inserts_with g.S.Store _ _ _ _ _ (hold_params grant) (search rules) c.in_ok-insert.ensures in
+    let put = inserts_with g.S.Store _ _ _ _ _ (grant_params grant) (search rules) c.in_ok-insert-2.ensures in
     let before = runs_then g.S.Store put_hold.leaves put.leaves in
     let runs = runs_then g.S.Store before c.set_calls.ensures.leaves in
     let modem : IsName grant.modem = search rules in

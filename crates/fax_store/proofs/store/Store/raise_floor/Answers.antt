@@ -3,8 +3,7 @@ use Rattle.fax_store.specs.Calls.{shown}
 use Rattle.fax_core.specs.Ledger.{greater, with_floor}
 use Rattle.fax_value.specs.Name.{IsName}
 use Rattle.fax_store.specs.Work.{Steps}
-use Rattle.fax_store.proofs.WorkLemmas.{moves_of}
-use Rattle.fax_store.proofs.FrameLemmas.{reads_on, runs_of, runs_then}
+use Rattle.fax_store.proofs.FrameLemmas.{moves_of, reads_on, runs_of, runs_then}
 use Rattle.fax_store.proofs.store.Store.raise_floor.Goals as goal
 
 pub returns : goal.returns

@@ -1,7 +1,6 @@
 use Rattle.std.proofs.Common.{sym, ◌∙◌}
 use Rattle.std.proofs.lemmas.Bool.{not-false}
 use Rattle.sqlite.specs.Held.{state}
-use Rattle.fax_store.specs.declared.store.TheConstants.{ROLLBACK}
 use Rattle.fax_store.proofs.StoreLemmas.{cleaner, ran_served, rolled}
 use Rattle.fax_store.proofs.StopLemmas.{rollback_nothing}
 use Rattle.fax_store.proofs.store.Store.roll_back.Goals as goal
@@ -14,6 +13,6 @@ returns-then-not-is_autocommit g c =
     record {
       back = rolled old new c.execute.ensures.survives.clean c.execute.result inside c.execute.ensures.runs;
       crash = rollback_nothing old new c.execute.ensures.survives;
-      served = ran_served old new c.execute.ensures.survives.clean ROLLBACK.now c.execute.result c.execute.ensures.runs;
+      served = ran_served old new c.execute.ensures.survives.clean _ c.execute.result c.execute.ensures.runs;
       clean = cleaner old new c.execute.ensures.survives.clean;
     }

@@ -1,10 +1,9 @@
 use Rattle.std.proofs.Common.{rules, false}
 use Rattle.sqlite.specs.Held.{state}
-use Rattle.fax_store.proofs.FrameLemmas.{edit_ran, edit_refused}
+use Rattle.fax_store.proofs.FrameLemmas.{edit_ran, edit_refused, on_err}
 use Rattle.sqlite.specs.State.{HasCleanDisk}
 use Rattle.sqlite.specs.Values.{bound}
 use Rattle.sqlite.proofs.InsideLemmas.{fails_whole}
-use Rattle.fax_tables.proofs.ResultLemmas.{on_err}
 use Rattle.fax_store.proofs.store.Store.run.Goals as goal
 
 pub returns-in_err-execute : goal.returns-in_err-execute

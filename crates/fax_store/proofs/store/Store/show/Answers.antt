@@ -5,12 +5,10 @@ use Rattle.sqlite.specs.Listing.{understood}
 use Rattle.sqlite.specs.State.{HasCleanDisk}
 use Rattle.sqlite.specs.Values.{bound}
 use Rattle.fax_store.specs.Store.{LeavesCommit}
-use Rattle.fax_tables.proofs.ResultLemmas.{on_err}
 use Rattle.fax_store.proofs.StatementLemmas.{query_fails, left_open, shown_keeps, shown_at}
 use Rattle.fax_store.proofs.StoreLemmas.{cleaner, served}
-use Rattle.fax_store.proofs.WorkLemmas.{reads_refused}
 use Rattle.fax_store.proofs.StopLemmas.{queries_nothing}
-use Rattle.fax_store.proofs.FrameLemmas.{finds_by}
+use Rattle.fax_store.proofs.FrameLemmas.{finds_by, on_err, reads_refused}
 use Rattle.fax_store.proofs.store.Store.show.Goals as goal
 
 pub returns-in_err-rows : goal.returns-in_err-rows

@@ -1,8 +1,7 @@
-use Rattle.std.proofs.Common.{◌≡◌, refl, sym, subst, ◌∙◌, rules}
+use Rattle.std.proofs.Common.{◌≡◌, refl, sym, subst, ◌∙◌, rules, false}
 use Rattle.fax_store.proofs.FrameLemmas.{reads_on, runs_of, runs_then}
 use Rattle.sqlite.specs.Tree.{IsTable}
 use Rattle.fax_store.proofs.GrantLemmas.{closed_already}
-use Rattle.std.specs.Prelude.{false}
 use Rattle.fax_store.proofs.store.Store.shut_grant.Goals as goal
 
 pub returns-then-not-grant-clause-written : goal.returns-then-not-grant-clause-written

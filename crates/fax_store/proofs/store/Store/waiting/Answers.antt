@@ -2,10 +2,8 @@ use Rattle.std.proofs.Common.{subst, rules}
 use Rattle.sqlite.specs.Held.{state}
 use Rattle.sqlite.specs.State.{Shown}
 use Rattle.fax_schema.specs.declared.statements.TheConstants.{SELECT_WAITING}
-use Rattle.fax_tables.proofs.ResultLemmas.{or_weaker}
 use Rattle.fax_store.proofs.JobsLemmas as waiting
-use Rattle.fax_schema.proofs.StatementTexts.{select_waiting}
-use Rattle.fax_store.proofs.FrameLemmas.{finds_as}
+use Rattle.fax_store.proofs.FrameLemmas.{finds_as, or_weaker}
 use Rattle.fax_store.proofs.store.Store.waiting.Goals as goal
 
 pub returns : goal.returns
@@ -20,6 +18,3 @@ returns g c = record {
       or_weaker c.jobs_in.result _ _ (λ found is. (it.0, is, it.2))
       (c.jobs_in.ensures.found it.0 (search rules) (waiting.all_waiting t m it.0 it.2 means_now.lawful.jobs));
 }
-
-pub show-requires : goal.show-requires
-show-requires g c = select_waiting.plain

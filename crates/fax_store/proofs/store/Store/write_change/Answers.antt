@@ -3,14 +3,11 @@ use Rattle.sqlite.specs.Order.{Row}
 use Rattle.sqlite.specs.declared.types.Value.TheVariants.{Text}
 use Rattle.fax_core.specs.Job.{job_of}
 use Rattle.fax_job.specs.declared.job.JobFields.{JobFields}
-use Rattle.fax_schema.specs.declared.statements.TheConstants.{UPDATE_JOB}
 use Rattle.fax_store.specs.Calls.{WritesWhere}
 use Rattle.fax_store.specs.Job.{IsChange, with_change}
 use Rattle.fax_tables.specs.Row.{number}
 use Rattle.fax_store.proofs.JobLemmas.{IsFormedChange, job_changed}
 use Rattle.fax_tables.proofs.RowLemmas.{change_params, changed_by}
-use Rattle.fax_store.proofs.StatementLemmas.{edit_text}
-use Rattle.fax_schema.proofs.StatementTexts as texts
 use Rattle.fax_store.proofs.FrameLemmas.{edits_with, writes_where_by}
 use Rattle.fax_store.proofs.store.Store.write_change.Goals as goal
 
@@ -22,18 +19,7 @@ returns g c =
     let shown : params ≡ change_params j = changed_by j _ _ _ _ _ _ _ _ _ _ _ _ _ _ _
     c.as_str.ensures.text c.as_str-2.ensures.text c.text.ensures.text c.seconds.ensures.seconds c.killtime_number.ensures.number
     c.from.ensures c.from-2.ensures c.from-3.ensures c.from-4.ensures c.from-5.ensures c.from-6.ensures c.from-7.ensures c.from-8.ensures c.phase_number.ensures c.wish_number.ensures in
-    let lawful : IsFormedChange j = record {
-      modem = record { formed = search rules; utf8 = search rules };
-      jobtag = record { formed = search rules; utf8 = search rules };
-      status = record { formed = search rules; utf8 = search rules };
-      tts = search rules;
-      killtime = search rules;
-      priority = search rules;
-      limits = search rules;
-    } in
-    let edits = edits_with g.S.Store _ _ _ UPDATE_JOB.now params (change_params j) shown (edits_with g.S.Store _ _ _ _ _ _ (search rules) c.run.ensures) in
+    let lawful : IsFormedChange j = search rules in
+    let edits = edits_with g.S.Store _ _ _ _ params (change_params j) shown (edits_with g.S.Store _ _ _ _ _ _ (search rules) c.run.ensures) in
     subst (λ (f : JobFields). WritesWhere g.S.Store c.args.self.now c.run.new.self c.run.result (IsChange (job_of f)) (with_change (job_of f)) (λ k. k)) same
-    (writes_where_by g.S.Store _ _ _ UPDATE_JOB.now (change_params j) 0 _ _ _ edits (λ m k fits means has. job_changed j _ _ m k means fits lawful has))
-
-pub run-requires : goal.run-requires
-run-requires g c = edit_text UPDATE_JOB.now _ tt texts.update_job
+    (writes_where_by g.S.Store _ _ _ _ (change_params j) 0 _ _ _ edits (λ m k fits means has. job_changed j _ _ m k means fits lawful has))

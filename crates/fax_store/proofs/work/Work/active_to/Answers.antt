@@ -1,6 +1,5 @@
-use Rattle.std.proofs.Common.{refl}
 use Rattle.fax_store.proofs.FrameLemmas.{tells_by}
 use Rattle.fax_store.proofs.work.Work.active_to.Goals as goal
 
 pub returns : goal.returns
-returns g c = tells_by g.S.Store _ _ _ c.if-self.false c.is_err-self.ensures.value refl _ c.active_to-found.ensures.leaves c.active_to-found.ensures.answers
+returns g c = tells_by g.S.Store c.if-self.false c.is_err-self.ensures.value c.active_to-found.ensures.leaves c.active_to-found.ensures.answers

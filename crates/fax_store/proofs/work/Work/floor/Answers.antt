@@ -1,6 +1,5 @@
-use Rattle.std.proofs.Common.{refl}
 use Rattle.fax_store.proofs.FrameLemmas.{tells_lawful_by}
 use Rattle.fax_store.proofs.work.Work.floor.Goals as goal
 
 pub returns : goal.returns
-returns g c = tells_lawful_by g.S.Store _ _ _ c.if-self.false c.is_err-self.ensures.value refl _ _ c.floor-found.ensures.leaves c.floor-found.ensures.answers c.floor-found.ensures.lawful
+returns g c = let told = c.floor-found.ensures in tells_lawful_by g.S.Store c.if-self.false c.is_err-self.ensures.value told.leaves told.answers told.lawful

@@ -1,6 +1,5 @@
-use Rattle.std.proofs.Common.{refl}
 use Rattle.fax_store.proofs.FrameLemmas.{tells_by}
 use Rattle.fax_store.proofs.work.Work.job.Goals as goal
 
 pub returns : goal.returns
-returns g c = tells_by g.S.Store _ _ _ c.if-self.false c.is_err-self.ensures.value refl _ c.job-found.ensures.leaves c.job-found.ensures.answers
+returns g c = tells_by g.S.Store c.if-self.false c.is_err-self.ensures.value c.job-found.ensures.leaves c.job-found.ensures.answers

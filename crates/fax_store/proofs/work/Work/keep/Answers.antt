@@ -1,6 +1,5 @@
-use Rattle.std.proofs.Common.{refl}
 use Rattle.fax_store.proofs.FrameLemmas.{makes_if_by}
 use Rattle.fax_store.proofs.work.Work.keep.Goals as goal
 
 pub returns-clause-makes : goal.returns-clause-makes
-returns-clause-makes g c = makes_if_by g.S.Store _ _ _ c.if-self.false c.is_err-self.ensures.value refl _ _ _ c.write_reply-done.ensures.writes
+returns-clause-makes g c = makes_if_by g.S.Store c.if-self.false c.is_err-self.ensures.value c.write_reply-done.ensures.writes

@@ -1,6 +1,5 @@
-use Rattle.std.proofs.Common.{refl}
 use Rattle.fax_store.proofs.FrameLemmas.{tells_lawful_by}
 use Rattle.fax_store.proofs.work.Work.meta.Goals as goal
 
 pub returns : goal.returns
-returns g c = tells_lawful_by g.S.Store _ _ _ c.if-self.false c.is_err-self.ensures.value refl _ _ c.meta-found.ensures.leaves c.meta-found.ensures.answers c.meta-found.ensures.lawful
+returns g c = let told = c.meta-found.ensures in tells_lawful_by g.S.Store c.if-self.false c.is_err-self.ensures.value told.leaves told.answers told.lawful

@@ -1,6 +1,5 @@
-use Rattle.std.proofs.Common.{refl}
 use Rattle.fax_store.proofs.FrameLemmas.{makes_by}
 use Rattle.fax_store.proofs.work.Work.set_clock.Goals as goal
 
 pub returns : goal.returns
-returns g c = makes_by g.S.Store _ _ _ c.if-self.false c.is_err-self.ensures.value refl _ _ c.write_clock-done.ensures
+returns g c = makes_by g.S.Store c.if-self.false c.is_err-self.ensures.value c.write_clock-done.ensures
