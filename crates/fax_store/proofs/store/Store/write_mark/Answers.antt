@@ -1,4 +1,4 @@
-use Rattle.std.proofs.Common.{rules, false}
+use Rattle.std.proofs.Common.{rules}
 use Rattle.fax_store.proofs.WorkLemmas.{moves_of}
 use Rattle.fax_store.proofs.store.Store.write_mark.Goals as goal
 
