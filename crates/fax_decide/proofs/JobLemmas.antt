@@ -1,5 +1,5 @@
 -- What is decided of a request on a job.
-use Rattle.std.proofs.Common.{◌≡◌, ℕ, Bool, true, false, cond, Some, Ok, Err, Result, sym, ap, subst, ◌∙◌}
+use Rattle.std.proofs.Common.{◌≡◌, ℕ, true, false, cond, Some, Ok, Err, Result, sym, ap, subst, ◌∙◌}
 use Rattle.fax_job.specs.declared.job.JobFields.{JobFields}
 use Rattle.fax_job.specs.declared.refusal.Refusal.{Refusal}
 use Rattle.fax_job.specs.declared.refusal.Refusal.TheVariants.{Unavailable}
@@ -31,11 +31,8 @@ use Rattle.fax_decide.proofs.LinesLemmas.{decision_lined, job_lined, state_lined
 -- what is recorded was decided, unless no record could hold the job
 pub recorded_as : (r x : Result Job Refusal) → x ≡ recorded r → (x ≡ Err Unavailable → ⊥) → r ≡ x
 recorded_as (Err e) x is never = sym is
-recorded_as (Ok j) x is never = by (is_lawful (fields_of j)) is
-  where
-    by : (b : Bool) → x ≡ cond b (Ok j) (Err Unavailable) → Ok j ≡ x
-    by true e = sym e
-    by false e = absurd (never e)
+recorded_as (Ok j) x is never =
+    (elim (is_lawful (fields_of j)) as (λ b. x ≡ cond b (Ok j) (Err Unavailable) → Ok j ≡ x) [ true ↦ λ e. sym e | false ↦ λ e. absurd (never e) ]) is
 
 -- so a job that is recorded was decided
 pub recorded_ok : (r : Result Job Refusal) (x : Job) → Ok x ≡ recorded r → r ≡ Ok x

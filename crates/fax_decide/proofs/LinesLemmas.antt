@@ -2,7 +2,6 @@
 use Rattle.std.proofs.Common.{◌≡◌, ℕ, Bool, true, false, cond, not, ◌&&◌, ◌||◌, ◌==◌, List, [], ◌∷◌, Some, Result, Ok, Err, refl, ap, is_none, is_some, nat_le}
 use Rattle.fax_job.specs.Pair.{Pair}
 use Rattle.fax_value.specs.Status.{kill_time_expired, killed, too_many_dials, too_many_tries, unable_to_transmit}
-use Rattle.fax_job.specs.declared.alter.Alter.{Alter}
 use Rattle.fax_job.specs.declared.job.Call.{Call}
 use Rattle.fax_job.specs.declared.job.Call.TheVariants as calls
 use Rattle.fax_job.specs.declared.job.Phase.{Phase}
@@ -56,33 +55,26 @@ module _ (lines : List Pair) where
 
   -- ---- a client's requests
 
-  -- a suspension decides the same with them
-  suspend_lined : (phase : Phase) (w : Wish) (j : Job) → job_lined (suspend_in phase w j) ≡ suspend_in phase w (lined j)
-  suspend_lined Granted wish.Go j = refl
-  suspend_lined phase w j = refl
-
-  -- a resumption does
-  resume_lined : (phase : Phase) (w : Wish) (j : Job) → job_lined (resume_in phase w j) ≡ resume_in phase w (lined j)
-  resume_lined Granted wish.Go j = refl
-  resume_lined phase w j = refl
-
-  -- a kill does
-  kill_lined : (phase : Phase) (j : Job) → job_lined (kill_in phase j) ≡ kill_in phase (lined j)
-  kill_lined Held j = refl
-  kill_lined phase j = refl
-
-  -- an alteration does
-  alter_lined : (phase : Phase) (changes : Alter) (j : Job) (t : ℕ) → job_lined (alter_in phase changes j t) ≡ alter_in phase changes (lined j) t
-  alter_lined Held changes j t = let k = altered changes j t in either job_lined (nat_le k.maxdials k.totdials || nat_le k.maxtries k.tottries)
-      (Err LimitReached) (Ok k) _ _ refl refl
-  alter_lined phase changes j t = refl
-
   -- each request on a job decides the same with them
   pub decision_lined : (ask : JobAsk) (t : ℕ) (j : Job) → job_lined (job_asked ask t j) ≡ job_asked ask t (lined j)
-  decision_lined Suspend t j = suspend_lined j.phase j.wish j
-  decision_lined Resume t j = resume_lined j.phase j.wish j
-  decision_lined Kill t j = kill_lined j.phase j
-  decision_lined (Alteration changes) t j = alter_lined j.phase changes j t
+  decision_lined Suspend t j = by j.phase j.wish
+    where
+      by : (p : Phase) (w : Wish) → job_lined (suspend_in p w j) ≡ suspend_in p w (lined j)
+      by Granted wish.Go = refl
+      by p w = refl
+  decision_lined Resume t j = by j.phase j.wish
+    where
+      by : (p : Phase) (w : Wish) → job_lined (resume_in p w j) ≡ resume_in p w (lined j)
+      by Granted wish.Go = refl
+      by p w = refl
+  decision_lined Kill t j = elim j.phase as (λ p. job_lined (kill_in p j) ≡ kill_in p (lined j)) [ Held ↦ refl | _ ↦ refl ]
+  decision_lined (Alteration changes) t j =
+      let k = altered changes j t in
+      let reached = nat_le k.maxdials k.totdials || nat_le k.maxtries k.tottries in
+      elim j.phase as (λ p. job_lined (alter_in p changes j t) ≡ alter_in p changes (lined j) t) [
+        | Held ↦ either job_lined reached (Err LimitReached) (Ok k) _ _ refl refl
+        | _ ↦ refl
+      ]
 
   -- ---- a worker's reports
 
@@ -119,9 +111,8 @@ module _ (lines : List Pair) where
   -- a job whose grant ended keeps them
   ended_lined : (left : List ℕ) (e : Ending) (o : Outcome) (j : Job) (delay t : ℕ) → o.ending ≡ e → lined (ended left o j delay t) ≡ ended left o (lined j) delay t
   ended_lined [] e o j delay t is = refl
-  ended_lined (p ∷ rest) ending.Done o j delay t is = rw is refl
-  ended_lined (p ∷ rest) ending.Fail o j delay t is = rw is refl
   ended_lined (p ∷ rest) ending.Retry o j delay t is = rw is (retry_lined j o.reason delay t)
+  ended_lined (p ∷ rest) _ o j delay t is = rw is refl
 
   -- a report of an outcome decides the same with them
   pub outcome_lined : (o : Outcome) (j : Job) (g : Grant) (delay t : ℕ) → both_lined (outcome o j g delay t) ≡ outcome o (lined j) g delay t

@@ -1,10 +1,8 @@
 -- Jobs and grants of a queue, as the store finds them.
-use Rattle.std.proofs.Common.{◌≡◌, inl, inr, ℕ, ◌<◌, ◌==◌, ◌&&◌, leb, Bool, All, List, [], ◌∷◌, Option, Some, None, find, option_map, refl, sym, ap, subst, ◌∙◌, arith, leb-true}
+use Rattle.std.proofs.Common.{◌≡◌, inl, inr, ℕ, ◌<◌, ◌==◌, ◌&&◌, leb, All, List, [], ◌∷◌, Option, Some, None, option_map, refl, sym, ap, subst, ◌∙◌, arith, leb-true}
 use Rattle.std.proofs.lemmas.Bool.{and_parts, cond_both}
-use Rattle.std.proofs.lemmas.List.Elements.{recursion_from_All}
 use Rattle.std.proofs.lemmas.Option.{none-some}
 use Rattle.sqlite_rules.specs.Lists.{Has}
-use Rattle.sqlite_rules.proofs.ListLemmas.{all_has, has_found}
 use Rattle.fax_value.specs.Limits.{last_job}
 use Rattle.fax_value.specs.Status.{kill_time_expired}
 use Rattle.fax_job.specs.Pair.{Pair}
@@ -20,6 +18,7 @@ use Rattle.fax_core.proofs.FitsLemmas.{job_again}
 use Rattle.fax_core.proofs.KeepLemmas.{looked_up, numbered_grant, numbered_job}
 use Rattle.fax_core.proofs.PlaceLemmas.{In, in_found, of_filter}
 use Rattle.fax_core.proofs.RecordLemmas.{within_limits_of}
+pub use Rattle.fax_tables.proofs.KeyLemmas.{found_holds as holds_found}
 use Rattle.fax_tables.specs.Job.{IsLawfulJob, brief}
 use Rattle.fax_tables.specs.Tables.{IsLawfulGrant}
 use Rattle.fax_store.specs.Job.{lines_of}
@@ -28,10 +27,6 @@ use Rattle.fax_decide.specs.Records.{job_in}
 use Rattle.fax_decide.proofs.LinesLemmas.{aged_lined, lined}
 
 -- ---- what is found
-
--- what holds of each holds of the one that is found
-pub holds_found : {X : Type 0} (P : X → Type 0) (p : X → Bool) (xs : List X) (x : X) → All P xs → find p xs ≡ Some x → P x
-holds_found P p xs x all is = all_has P xs x (recursion_from_All P xs all) (has_found p xs x is).0
 
 -- where there is none to be found, none is
 pub none_by : {X : Type 0} (o : Option X) → ((x : X) → o ≡ Some x → ⊥) → o ≡ None

@@ -27,9 +27,6 @@ returns-in-None g c = goes_on (both c.in_ok-number.ensures (by_reading c.in_ok-j
     let it = MatchOption-at_some _ _ c.in-Some.number c.in-Some.is (first_read s m c.args.t c.args.modem.now sound at.means.lawful.jobs _ (calls.0 sound)) in
     absurd (none-some (fields_of it.0) (sym c.in-None.is ∙ calls.1 ∙ ap (option_map fields_of) it.1)))
 
-pub returns-in_err-number : goal.returns-in_err-number
-returns-in_err-number g c = stops c.from_residual.ensures.1 c.in_err-number.ensures (λ m out why sound. out _ (why sound))
-
 pub returns-in_err-job : goal.returns-in_err-job
 returns-in_err-job g c =
     stops c.from_residual-in_err-job.ensures.1 (both c.in_ok-number.ensures (by_reading c.in_err-job.ensures.leaves c.in_err-job.ensures.answers))

@@ -10,10 +10,10 @@ use Rattle.fax_core.specs.declared.grants.Grant.{Grant}
 use Rattle.fax_job.specs.declared.refusal.Refusal.TheVariants.{ModemBusy}
 use Rattle.fax_tables.specs.Job.{brief}
 use Rattle.fax_decide.specs.Choice.{is_held_by}
-use Rattle.fax_decide.specs.Fault.{OrNoAnswer, fault_of}
+use Rattle.fax_decide.specs.Fault.{OrNoAnswer}
 use Rattle.fax_decide.specs.declared.decision.Decision.TheVariants.{Refused}
 use Rattle.fax_decide.proofs.GivenLemmas.{hold_dials, hold_has_grant, hold_has_job, hold_is_its}
-use Rattle.fax_decide.proofs.LookingLemmas.{both, by_reading, goes_on, stops}
+use Rattle.fax_decide.proofs.LookingLemmas.{both, by_reading, goes_on}
 use Rattle.fax_decide.proofs.choice.busy.Goals as goal
 
 pub returns : goal.returns
@@ -25,19 +25,9 @@ returns g c = goes_on (both (by_reading c.in_ok-grant.ensures.leaves c.in_ok-gra
     (ap (is_held_by c.args.modem.now c.in-Some-2.job) it ∙ hold_is_its m c.args.modem.now one c.args.hold sound is same c.in-Some-2.job found)
     (ap (λ (x : Grant). dial_of (job_numbered x.job (aged t m))) it ∙ hold_dials m c.args.modem.now one c.args.hold sound is same t c.in-Some-2.job found)))
 
-pub returns-in_err-grant : goal.returns-in_err-grant
-returns-in_err-grant g c =
-    stops c.from_residual.ensures.1 (by_reading c.in_err-grant.ensures.leaves c.in_err-grant.ensures.answers) (λ m out why t one sound is same. out _ (ap fault_of why))
-
 pub returns-in_default : goal.returns-in_default
 returns-in_default g c = goes_on (by_reading c.in_ok-grant.ensures.leaves c.in_ok-grant.ensures.answers) (λ m k at grant t one sound is same.
     absurd (none-some one (sym c.in_default.is ∙ grant ∙ hold_has_grant m c.args.modem.now one c.args.hold sound is same)))
-
-pub returns-in_err-job : goal.returns-in_err-job
-returns-in_err-job g c =
-    stops c.from_residual-in_err-job.ensures.1
-    (both (by_reading c.in_ok-grant.ensures.leaves c.in_ok-grant.ensures.answers) (by_reading c.in_err-job.ensures.leaves c.in_err-job.ensures.answers))
-    (λ m out why t one sound is same. out _ (ap fault_of why.1))
 
 pub returns-in_default-2 : goal.returns-in_default-2
 returns-in_default-2 g c = goes_on (both (by_reading c.in_ok-grant.ensures.leaves c.in_ok-grant.ensures.answers) (by_reading c.in_ok-job.ensures.leaves c.in_ok-job.ensures.answers)) (λ m k at calls t one sound is same.

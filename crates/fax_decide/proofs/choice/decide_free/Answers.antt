@@ -8,7 +8,7 @@ use Rattle.fax_decide.specs.declared.effect.Effect.TheVariants.{Nothing}
 use Rattle.fax_decide.proofs.DecisionLemmas.{nothing_taken, taken_or}
 use Rattle.fax_decide.proofs.GivenLemmas.{best_given}
 use Rattle.fax_decide.proofs.KeptLemmas.{best_waits}
-use Rattle.fax_decide.proofs.LookingLemmas.{goes_on, stops}
+use Rattle.fax_decide.proofs.LookingLemmas.{goes_on}
 use Rattle.fax_decide.proofs.choice.decide_free.Goals as goal
 
 pub returns-in-Some : goal.returns-in-Some
@@ -22,6 +22,3 @@ pub returns-in-None : goal.returns-in-None
 returns-in-None g c = goes_on c.in_ok-job.ensures (λ m k at best sound next.
     rw (← (sym (ap (option_map (λ f. job_of f)) c.in-None.is) ∙ best sound))
     (taken_or Nothing _ _ c.answered.result _ c.take.ensures c.answered.ensures (nothing_taken m c.args.t NoneToSend)))
-
-pub returns-in_err-job : goal.returns-in_err-job
-returns-in_err-job g c = stops c.from_residual.ensures.1 c.in_err-job.ensures (λ m out why sound next. out _ (why sound))

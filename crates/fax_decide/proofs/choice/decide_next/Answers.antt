@@ -3,12 +3,12 @@ use Rattle.fax_core.specs.Machine.{held_by, is_down}
 use Rattle.fax_dest.specs.Setup.{has_modem}
 use Rattle.fax_tables.specs.Grant.{as_hold}
 use Rattle.fax_decide.specs.Decision.{Decides}
-use Rattle.fax_decide.specs.Fault.{OrNoAnswer, fault_of}
+use Rattle.fax_decide.specs.Fault.{OrNoAnswer}
 use Rattle.fax_decide.specs.Settings.{settings_of}
 use Rattle.fax_decide.proofs.DecisionLemmas.{refused_as}
 use Rattle.fax_decide.proofs.FaultLemmas.{or_weaker}
 use Rattle.fax_decide.proofs.GivenLemmas.{goes_free, is_busy}
-use Rattle.fax_decide.proofs.LookingLemmas.{both, by_reading, gives, goes_on, stops}
+use Rattle.fax_decide.proofs.LookingLemmas.{both, by_reading, gives, goes_on}
 use Rattle.fax_decide.proofs.choice.decide_next.Goals as goal
 
 pub returns-in-Some : goal.returns-in-Some
@@ -35,12 +35,3 @@ returns-in-None g c =
 
 pub returns-then-branch : goal.returns-then-branch
 returns-then-branch g c = goes_on (by_reading c.in_ok-is_down.ensures.leaves c.in_ok-is_down.ensures.answers) (λ m k at down sound next. search rules)
-
-pub returns-in_err-is_down : goal.returns-in_err-is_down
-returns-in_err-is_down g c = stops c.from_residual.ensures.1 (by_reading c.in_err-is_down.ensures.leaves c.in_err-is_down.ensures.answers)
-    (λ m out why sound next. out _ (ap fault_of why))
-
-pub returns-in_err-hold : goal.returns-in_err-hold
-returns-in_err-hold g c =
-    let looked = both (by_reading c.in_ok-is_down.ensures.leaves c.in_ok-is_down.ensures.answers) (by_reading c.in_err-hold.ensures.leaves c.in_err-hold.ensures.answers) in
-    stops c.from_residual-in_err-hold.ensures.1 looked (λ m out why sound next. out _ (ap fault_of why.1))

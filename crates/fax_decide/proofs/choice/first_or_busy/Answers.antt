@@ -1,5 +1,5 @@
-use Rattle.std.proofs.Common.{◌≡◌, rules, subst, sym, None}
-use Rattle.fax_decide.specs.Choice.{IsBusy, IsFirst}
+use Rattle.std.proofs.Common.{◌≡◌, rules, subst, sym}
+use Rattle.fax_decide.specs.Choice.{IsBusy}
 use Rattle.fax_decide.specs.Settings.{settings_of}
 use Rattle.fax_decide.proofs.ChoiceLemmas.{first_known}
 use Rattle.fax_decide.proofs.FaultLemmas.{or_weaker}
@@ -11,10 +11,8 @@ returns g c =
     let last : c.first_of.new.candidates.store.now ≡ c.store-1.given.0 = search rules in
     gives (both (known c.candidates-candidates.ensures.stands) (moved c.candidates-candidates.ensures.same last c.first_of.ensures.consults)) (λ m k at calls sound busy.
     let s = settings_of c.args.office.now.setup c.args.office.now.controls in
-    let modem = c.args.modem.now in
-    let asked = c.candidates-candidates.result.asked in
-    let moment = c.candidates-candidates.ensures.asked.0 in
-    let but : IsBusy s m c.args.t asked.but = subst (IsBusy s m c.args.t) (sym c.candidates-candidates.ensures.asked.1) tt in
-    or_weaker c.first_of.result _ (λ found. IsBusy s m c.args.t c.first_of.new.busy × (c.first_of.new.busy ≡ None → IsFirst s m c.args.t modem found))
-    (λ found told. (told.0, λ none. first_known s m c.args.t modem asked found moment but (told.1 (λ _. none))))
-    (calls.1 sound moment calls.0 busy))
+    let asked = c.candidates-candidates.ensures.asked in
+    let but = subst (IsBusy s m c.args.t) (sym asked.1) tt in
+    or_weaker c.first_of.result _ _
+    (λ found told. (told.0, λ none. first_known s m c.args.t c.args.modem.now _ found asked.0 but (told.1 (λ _. none))))
+    (calls.1 sound asked.0 calls.0 busy))

@@ -13,7 +13,7 @@ use Rattle.fax_decide.specs.Fault.{OrNoAnswer}
 use Rattle.fax_decide.specs.Settings.{have_moment, machine_rule, rule_for, settings_of}
 use Rattle.fax_decide.proofs.FaultLemmas.{both_sides}
 use Rattle.fax_decide.proofs.JobLemmas.{recorded_ok}
-use Rattle.fax_decide.proofs.LookingLemmas.{decides, gives, goes_on, no_call, stops}
+use Rattle.fax_decide.proofs.LookingLemmas.{decides, gives, goes_on, no_call}
 use Rattle.fax_decide.proofs.NewJobLemmas.{bring_refused, refused_new}
 use Rattle.fax_decide.proofs.import.decide_import.Goals as goal
 
@@ -53,6 +53,3 @@ returns-in-Err g c = decides (goes_on no_call (λ m k at none sound these.
           (λ few. read_old_recorded read.0 c.args.import c.args.meta.now.next_job c.args.t read.1 first
           (let low = ltb-false c.max_jobs.result c.args.meta.now.next_job few in let most = c.max_jobs.ensures.bounds.1 in omega (arith, low, most)))),
     )))
-
-pub returns-in_err-rule : goal.returns-in_err-rule
-returns-in_err-rule g c = decides (stops c.from_residual.ensures.1 no_call (λ m out none sound these. both_sides c.from_residual.result _ (out _ refl)))

@@ -1,35 +1,15 @@
-use Rattle.std.proofs.Common.{refl, ap, subst, sym, option_map, IfOk, ◌∙◌, Err, false, ℕ, ◌≡◌}
+use Rattle.std.proofs.Common.{refl, ap, subst, sym, option_map, IfOk, ◌∙◌}
 use Rattle.fax_core.specs.Ageing.{aged}
-use Rattle.fax_core.specs.Machine.{on_job}
 use Rattle.fax_decide.specs.Decision.{Decides}
-use Rattle.fax_decide.specs.Fault.{fault_of}
 use Rattle.fax_decide.specs.Records.{job_in}
 use Rattle.fax_decide.specs.Settings.{settings_of}
 use Rattle.fax_decide.specs.declared.decision.Decision.TheVariants.{Refused}
 use Rattle.fax_decide.proofs.DecisionLemmas.{refused_as}
-use Rattle.fax_decide.proofs.FaultLemmas.{both_sides}
 use Rattle.fax_decide.proofs.JobLemmas.{on_job_is}
 use Rattle.fax_decide.proofs.KeptLemmas.{job_keeps}
-use Rattle.fax_decide.proofs.LookingLemmas.{both, gives, goes_on, stops}
+use Rattle.fax_decide.proofs.LookingLemmas.{both, gives, goes_on}
 use Rattle.fax_decide.proofs.RecordLemmas.{found_itself}
-use Rattle.fax_core.specs.Job.{Job, job_of}
-use Rattle.fax_core.specs.declared.ask.JobAsk.{JobAsk}
-use Rattle.fax_core.specs.declared.ask.JobAsk.TheVariants.{Suspend, Resume, Kill, Alter}
-use Rattle.fax_job.specs.declared.refusal.Refusal.{Refusal}
-use Rattle.fax_core.proofs.RefusalLemmas.{alter_refused, kill_refused, resume_refused, suspend_refused}
-use Rattle.fax_ask.specs.Detail.{has_detail}
-use Rattle.fax_core.specs.Decisions.{job_asked}
 use Rattle.fax_decide.proofs.jobs.decide_on_job.Goals as goal
-
--- of a refused request on a job no more is told than number and word
-on_job_plain : (ask : JobAsk) (t : ℕ) (j : Job) (e : Refusal) → job_asked ask t j ≡ Err e → has_detail e ≡ false
-on_job_plain Suspend t j e h = suspend_refused (λ x. has_detail x ≡ false) refl refl j.phase j.wish j e h
-on_job_plain Resume t j e h = resume_refused (λ x. has_detail x ≡ false) refl refl refl j.phase j.wish j e h
-on_job_plain Kill t j e h = kill_refused (λ x. has_detail x ≡ false) refl j.phase j e h
-on_job_plain (Alter changes) t j e h = alter_refused (λ x. has_detail x ≡ false) refl refl refl refl j.phase changes j t e h
-
-pub refused-requires-in-Err : goal.refused-requires-in-Err
-refused-requires-in-Err g c = on_job_plain c.args.ask c.args.t (job_of c.in-Some.job) c.in-Err.refusal (sym c.in-Err.ensures)
 
 pub returns-in-Ok : goal.returns-in-Ok
 returns-in-Ok g c = gives (both c.in_ok-job.ensures.consults c.changed.ensures) (λ m k at both.
@@ -48,13 +28,3 @@ returns-in-Err g c = goes_on c.in_ok-job.ensures.consults (λ m k at found.
           (refused_as refl c.refused-in-Err.ensures),
       λ read. tt,
     ))
-
-pub returns-in_default : goal.returns-in_default
-returns-in_default g c = goes_on c.in_ok-job.ensures.consults (λ m k at found. (
-  refused_as (ap (on_job (settings_of c.args.office.now.setup c.args.office.now.controls) (aged c.args.t m) c.args.t c.args.ask)
-      (sym found ∙ ap (option_map (job_in (aged c.args.t m))) c.in_default.is)) c.refused.ensures,
-  λ read. tt,
-))
-
-pub returns-in_err-job : goal.returns-in_err-job
-returns-in_err-job g c = stops c.from_residual.ensures.1 c.in_err-job.ensures.consults (λ m out why. both_sides c.from_residual.result _ (out _ (ap fault_of why)))

@@ -3,8 +3,6 @@ use Rattle.fax_core.specs.Job.{fields_of}
 use Rattle.fax_core.specs.Queue.{job_numbered}
 use Rattle.fax_value.specs.Limits.{last_job}
 use Rattle.fax_tables.specs.Job.{brief}
-use Rattle.fax_store.proofs.FrameLemmas.{means_now}
-use Rattle.fax_tables.proofs.ResultLemmas.{passes_on}
 use Rattle.fax_decide.proofs.RecordLemmas.{no_job, found_brief, found_no_job}
 use Rattle.fax_decide.proofs.LookingLemmas.{by_reading, goes_on, no_call}
 use Rattle.fax_decide.proofs.records.brief_at.Goals as goal
@@ -24,10 +22,3 @@ pub returns-in-None-clause-consults : goal.returns-in-None-clause-consults
 returns-in-None-clause-consults g c = goes_on (by_reading c.in_ok-brief.ensures.leaves c.in_ok-brief.ensures.answers) (λ m k at read.
     let same : c.in-Some.number ≡ c.args.number = search rules in
     found_no_job m c.args.t c.args.number (λ j. brief (fields_of j)) _ (subst (λ n. c.in_ok-brief.field-0 ≡ option_map (λ j. brief (fields_of j)) (job_numbered n m)) same read) c.in-None.is)
-
-pub returns-in_err-brief-clause-consults : goal.returns-in_err-brief-clause-consults
-returns-in_err-brief-clause-consults g c = record {
-  leaves = search rules;
-  opens = search rules;
-  found = λ m k means serves. passes_on c.from_residual.result c.in_err-brief.field-0.0 _ c.from_residual.ensures.1 (c.in_err-brief.ensures.answers m k (means_now means) serves);
-}

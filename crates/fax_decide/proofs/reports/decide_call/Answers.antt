@@ -1,12 +1,8 @@
-use Rattle.std.proofs.Common.{◌≡◌, false, refl, Some, ◌≤◌, sym, ap, subst, ◌∙◌}
-use Rattle.fax_value.specs.Limits.{most_pages}
+use Rattle.std.proofs.Common.{◌≡◌, false, refl, Some, sym, ap, subst, ◌∙◌}
 use Rattle.fax_core.specs.Ageing.{aged}
 use Rattle.fax_core.specs.Job.{job_of}
 use Rattle.fax_core.specs.Machine.{call_reply}
-use Rattle.fax_core.specs.Queue.{job_numbered}
-use Rattle.fax_core.specs.declared.grants.Grant.{Grant}
 use Rattle.fax_store.specs.Grant.{IsSameGrant}
-use Rattle.fax_store.specs.Job.{lines_of}
 use Rattle.fax_decide.specs.Decision.{Decides}
 use Rattle.fax_decide.specs.Fault.{OrNoAnswer}
 use Rattle.fax_decide.specs.Records.{job_in}
@@ -18,22 +14,16 @@ use Rattle.fax_decide.proofs.ReportLemmas.{reported_on, same_given, was_open}
 use Rattle.fax_decide.proofs.KeptLemmas.{call_keeps}
 use Rattle.fax_decide.proofs.reports.decide_call.Goals as goal
 
-pub refused-requires : goal.refused-requires
-refused-requires c = call_refused (λ e. has_detail e ≡ false) refl refl c.args.said (job_of c.args.job) _ c.in-Err.refusal (sym c.in-Err.ensures)
-
 pub returns-in-Ok-clause-decided : goal.returns-in-Ok-clause-decided
 returns-in-Ok-clause-decided c m there few fit =
-    let lines = lines_of (job_numbered c.args.job.job (aged c.args.t m)) in
-    reported_on (λ step. OrNoAnswer c.called.result (Decides step m c.args.t)) (aged c.args.t m) (call_reply c.args.t) lines (job_of c.args.job) c.in-Ok.change _ c.with_call.result _ _
-    c.with_call.ensures c.in-Ok.ensures (call_lined lines c.args.said (job_of c.args.job) c.args.grant)
+    reported_on (λ step. OrNoAnswer c.called.result (Decides step m c.args.t)) (aged c.args.t m) (call_reply c.args.t) _ (job_of c.args.job) c.in-Ok.change _ c.with_call.result _ _
+    c.with_call.ensures c.in-Ok.ensures (call_lined _ c.args.said (job_of c.args.job) c.args.grant)
     (c.called.ensures m c.args.grant there (subst (IsSameGrant c.args.grant) (sym c.with_call.ensures) (same_given c.args.grant (Some c.args.said) _))
-    (ap (λ (g : Grant). g.number) c.with_call.ensures)
-    (subst (λ (g : Grant). g.confirmed ≤ most_pages) (sym c.with_call.ensures) few.1)
+    (cc) (rw c.with_call.ensures few.1)
     (call_keeps c.args.job c.args.grant _ c.in-Ok.change (fit (was_open c.args.grant _ _ c.in-Ok.ensures)) c.args.said c.in-Ok.ensures))
 
 pub returns-in-Err-clause-decided : goal.returns-in-Err-clause-decided
 returns-in-Err-clause-decided c m there few fit =
-    let lines = lines_of (job_numbered c.args.job.job (aged c.args.t m)) in
     report_refused (aged c.args.t m) (call_reply c.args.t) (job_in (aged c.args.t m) c.args.job) _ c.in-Err.refusal c.refused.result
     (call_refused (λ e. has_detail e ≡ false) refl refl c.args.said (job_of c.args.job) _ c.in-Err.refusal (sym c.in-Err.ensures)) c.refused.ensures
-    (ap (both_lined lines) c.in-Err.ensures ∙ call_lined lines c.args.said (job_of c.args.job) c.args.grant)
+    (ap (both_lined _) c.in-Err.ensures ∙ call_lined _ c.args.said (job_of c.args.job) c.args.grant)

@@ -1,13 +1,11 @@
 use Rattle.std.proofs.Common.{sym, ap, subst, option_map, ◌∙◌}
 use Rattle.fax_core.specs.Ageing.{aged}
-use Rattle.fax_core.specs.Machine.{on_grant}
 use Rattle.fax_core.specs.Queue.{job_numbered}
 use Rattle.fax_tables.specs.Tables.{IsLawfulGrant}
 use Rattle.fax_decide.specs.Decision.{Decides}
 use Rattle.fax_decide.specs.Fault.{OrNoAnswer, fault_of}
 use Rattle.fax_decide.specs.Records.{job_in}
 use Rattle.fax_decide.specs.Settings.{settings_of}
-use Rattle.fax_decide.proofs.DecisionLemmas.{refused_as}
 use Rattle.fax_decide.proofs.FaultLemmas.{always_answered}
 use Rattle.fax_decide.proofs.KeptLemmas.{job_there}
 use Rattle.fax_decide.proofs.LookingLemmas.{both, gives, goes_on, stops}
@@ -34,14 +32,6 @@ returns-in-None g c = goes_on (both c.in_ok-grant.ensures.consults c.in_ok-job.e
     (on_grant_is s (aged c.args.t m) c.args.t c.args.number c.args.report c.in-Some.grant _ grant job)
     (always_answered c.without_job.result _ (c.without_job.ensures.decided m c.args.t)
     (λ err. job_there m c.args.t c.args.number c.in-Some.grant sound grant (c.without_job.ensures.misfit.0 err) job)))
-
-pub returns-in_default : goal.returns-in_default
-returns-in_default g c = goes_on c.in_ok-grant.ensures.consults (λ m k at grant sound.
-    refused_as (ap (on_grant (settings_of c.args.office.now.setup c.args.office.now.controls) (aged c.args.t m) c.args.t c.args.report)
-    (sym grant ∙ c.in_default.is)) c.refused.ensures)
-
-pub returns-in_err-grant : goal.returns-in_err-grant
-returns-in_err-grant g c = stops c.from_residual.ensures.1 c.in_err-grant.ensures.consults (λ m out why sound. out _ (ap fault_of why))
 
 pub returns-in_err-job : goal.returns-in_err-job
 returns-in_err-job g c = stops c.from_residual-in_err-job.ensures.1 (both c.in_ok-grant.ensures.consults c.in_err-job.ensures.consults)

@@ -9,7 +9,7 @@ use Rattle.fax_tables.specs.declared.meta.Meta.{Meta}
 use Rattle.fax_decide.specs.Decision.{Decides}
 use Rattle.fax_decide.specs.Fault.{OrNoAnswer}
 use Rattle.fax_decide.specs.Settings.{have_moment, machine_rule, rule_for}
-use Rattle.fax_decide.proofs.FaultLemmas.{both_sides, no_memory}
+use Rattle.fax_decide.proofs.FaultLemmas.{both_sides}
 use Rattle.fax_decide.proofs.JobLemmas.{recorded_ok}
 use Rattle.fax_decide.proofs.NewJobLemmas.{refused_new, submit_is, submit_refused}
 use Rattle.fax_decide.proofs.submission.decide_submission.Goals as goal
@@ -47,6 +47,3 @@ returns-in-Err c m sound these =
           (λ few. read_recorded read.0 c.args.order c.args.meta.now.next_job c.args.t read.1 first
           (let low = ltb-false c.max_jobs.result c.args.meta.now.next_job few in let most = c.max_jobs.ensures.bounds.1 in omega (arith, low, most)))),
     )
-
-pub returns-in_err-rule : goal.returns-in_err-rule
-returns-in_err-rule c m sound these = both_sides c.from_residual.result _ (no_memory c.from_residual.result _ c.from_residual.ensures.1)

@@ -13,6 +13,3 @@ returns-in-Rejected-clause-reply c hours =
 
 pub returns-in-Rejected-clause-cause : goal.returns-in-Rejected-clause-cause
 returns-in-Rejected-clause-cause c known = only_no_answer c.rejected.result _ (c.rejected.ensures (λ _. true))
-
-pub returns-in-Unavailable-clause-cause : goal.returns-in-Unavailable-clause-cause
-returns-in-Unavailable-clause-cause c known = absurd (known c.in-Unavailable.is)

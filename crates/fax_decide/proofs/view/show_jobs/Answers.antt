@@ -4,7 +4,6 @@ use Rattle.fax_ask.specs.Answer.{Listed}
 use Rattle.fax_ask.specs.Response.{accepted_response}
 use Rattle.fax_core.specs.Ageing.{aged}
 use Rattle.fax_text.specs.Listing.{listing_of, number_of}
-use Rattle.fax_decide.specs.Fault.{fault_of}
 use Rattle.fax_run.specs.View.{with_state}
 use Rattle.fax_decide.specs.Settings.{settings_of}
 use Rattle.fax_decide.proofs.ViewLemmas.{briefs_seen, listing_thin, numbers_thin, rows_ascend}
@@ -19,10 +18,6 @@ returns g c = views (goes_on (both (by_reading c.in_ok-jobs.ensures.leaves c.in_
     let rows = c.as_slice.ensures.value ∙ calls.1 ∙ briefs_seen s m t c.in_ok-jobs.jobs.items at.means.lawful.jobs calls.0 in
     c.in_ok-listed.ensures (subst IsStrictlyIncreasing (sym (ap (map number_of) rows ∙ numbers_thin seen)) (rows_ascend s m t sound))
     ∙ ap (λ (text : List ℕ). accepted_response (Listed text)) (ap (listing_of s.shows) rows ∙ listing_thin s.shows seen)))
-
-pub returns-in_err-jobs : goal.returns-in_err-jobs
-returns-in_err-jobs g c =
-    views (stops c.from_residual.ensures.1 (by_reading c.in_err-jobs.ensures.leaves c.in_err-jobs.ensures.answers) (λ m out why sound. out _ (ap fault_of why)))
 
 pub returns-in_err-rows : goal.returns-in_err-rows
 returns-in_err-rows g c =

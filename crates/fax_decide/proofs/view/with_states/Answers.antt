@@ -1,6 +1,6 @@
 use Rattle.std.proofs.Common.{[], ◌∷◌, ◌++◌, ap, refl, sym, ◌∙◌, append_assoc, append-nil}
 use Rattle.std.proofs.lemmas.List.{map_push, nil_from_length}
-use Rattle.fax_decide.proofs.LookingLemmas.{both, goes_on, no_call, stops}
+use Rattle.fax_decide.proofs.LookingLemmas.{both, goes_on, stops}
 use Rattle.fax_decide.proofs.ViewLemmas.{row_is}
 use Rattle.fax_decide.specs.Settings.{settings_of}
 use Rattle.fax_text.specs.Listing.{Listed}
@@ -21,9 +21,6 @@ pub returns : goal.returns
 returns g c = goes_on c.loop-job.invariant.consults (λ m k at rows.
     let none = nil_from_length c.loop-job.job-iterator.rest.items (sym c.loop-job.job-iterator.rest.ok.0 ∙ c.in-None.ensures.steps.0) in
     rw (c.loop-job.invariant.items ∙ ap (λ rest. c.loop-job.yielded ++ rest) none ∙ append-nil c.loop-job.yielded) rows)
-
-pub returns-in_err-rows : goal.returns-in_err-rows
-returns-in_err-rows g c = stops c.from_residual.ensures.1 no_call (λ m out none. out _ refl)
 
 pub returns-in_err-state : goal.returns-in_err-state
 returns-in_err-state g c = stops c.from_residual-in_err-state.ensures.1 (both c.loop-job.invariant.consults c.in_err-state.ensures) (λ m out why. out _ why.1)

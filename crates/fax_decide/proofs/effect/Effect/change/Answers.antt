@@ -1,4 +1,3 @@
-use Rattle.std.proofs.Common.{rules}
 use Rattle.fax_store.proofs.FrameLemmas.{follows_of, follows_then}
 use Rattle.fax_decide.proofs.WorkLemmas.{refused_any}
 use Rattle.fax_decide.proofs.effect.Effect.change.Goals as goal
@@ -6,16 +5,8 @@ use Rattle.fax_decide.proofs.effect.Effect.change.Goals as goal
 pub returns-in-NewJob-clause-changes : goal.returns-in-NewJob-clause-changes
 returns-in-NewJob-clause-changes g c m₀ m k₀ k suits works = rw c.in-NewJob.is (c.put_job.ensures.changes m₀ m k₀ k works)
 
-pub returns-in-ChangedJob-clause-changes : goal.returns-in-ChangedJob-clause-changes
-returns-in-ChangedJob-clause-changes g c m₀ m k₀ k suits works = rw c.in-ChangedJob.is (c.put_change.ensures.changes m₀ m k₀ k (rw c.in-ChangedJob.is at suits) works)
-
 pub returns-in-Marked-clause-changes : goal.returns-in-Marked-clause-changes
 returns-in-Marked-clause-changes g c m₀ m k₀ k suits works = rw (c.in-Marked.is, ← c.as_str.ensures.text) (c.set_down.ensures.makes.changes m₀ m k₀ k works)
-
-pub returns-in_err-put_change-in-NewGrant-clause-changes : goal.returns-in_err-put_change-in-NewGrant-clause-changes
-returns-in_err-put_change-in-NewGrant-clause-changes g c m₀ m k₀ k suits works =
-    refused_any _ _ m₀ _ _ k₀ _ _ c.in_err-put_change-in-NewGrant.ensures.leaves.fails
-    (c.put_change-in-NewGrant.ensures.changes m₀ m k₀ k (rw c.in-NewGrant.is at suits) works)
 
 pub returns-in_ok-put_change-in-NewGrant-clause-changes : goal.returns-in_ok-put_change-in-NewGrant-clause-changes
 returns-in_ok-put_change-in-NewGrant-clause-changes g c m₀ m k₀ k suits works =
@@ -31,11 +22,6 @@ returns-in_ok-put_change-in-Reported-clause-changes g c m₀ m k₀ k suits work
     let suited = rw c.in-Reported.is at suits in
     rw c.in-Reported.is (c.put_report.ensures.changes m₀ _ k₀ _ suited.1 (c.put_change-in-Reported.ensures.changes m₀ m k₀ k suited.0 works))
 
-pub returns-in_err-put_change-in-Closed-clause-changes : goal.returns-in_err-put_change-in-Closed-clause-changes
-returns-in_err-put_change-in-Closed-clause-changes g c m₀ m k₀ k suits works =
-    refused_any _ _ m₀ _ _ k₀ _ _ c.in_err-put_change-in-Closed.ensures.leaves.fails
-    (c.put_change-in-Closed.ensures.changes m₀ m k₀ k (rw c.in-Closed.is at suits) works)
-
 pub returns-in_ok-put_change-in-Closed-clause-changes : goal.returns-in_ok-put_change-in-Closed-clause-changes
 returns-in_ok-put_change-in-Closed-clause-changes g c m₀ m k₀ k suits works =
     rw c.in-Closed.is (c.close_grant.ensures.changes m₀ _ k₀ _ (c.put_change-in-Closed.ensures.changes m₀ m k₀ k (rw c.in-Closed.is at suits) works))
@@ -49,21 +35,10 @@ returns-in_ok-put_change-in-Reported-clause-leaves g c = follows_then g.S.Store 
 pub returns-in_ok-put_change-in-Closed-clause-leaves : goal.returns-in_ok-put_change-in-Closed-clause-leaves
 returns-in_ok-put_change-in-Closed-clause-leaves g c = follows_then g.S.Store _ _ _ (follows_of g.S.Store _ _ _ c.put_change-in-Closed.ensures.leaves) (follows_of g.S.Store _ _ _ c.close_grant.ensures.leaves)
 
-pub returns-in-NewJob-clause-cause : goal.returns-in-NewJob-clause-cause
-returns-in-NewJob-clause-cause g c m₀ m k₀ k works s fits =
-    let fit = rw c.in-NewJob.is at fits in
-    c.put_job.ensures.cause m₀ m k₀ k works s (fit.free, fit.within)
-
-pub returns-in-Marked-clause-cause : goal.returns-in-Marked-clause-cause
-returns-in-Marked-clause-cause g c m₀ m k₀ k works s fits = c.set_down.ensures.makes.cause m₀ m k₀ k works s (λ down. search rules)
-
 pub returns-in_ok-put_change-in-NewGrant-clause-cause : goal.returns-in_ok-put_change-in-NewGrant-clause-cause
 returns-in_ok-put_change-in-NewGrant-clause-cause g c m₀ m k₀ k works s fits =
     let fit = rw c.in-NewGrant.is at fits in
     c.put_grant.ensures.cause m₀ _ k₀ _ (c.put_change-in-NewGrant.ensures.changes m₀ m k₀ k fit.suits works) s (fit.within.0, fit.free.0, fit.free.1, fit.within.1)
-
-pub returns-in_ok-put_change-in-Reported-clause-cause : goal.returns-in_ok-put_change-in-Reported-clause-cause
-returns-in_ok-put_change-in-Reported-clause-cause g c m₀ m k₀ k works s fits = c.put_report.ensures.cause (rw c.in-Reported.is at fits).within
 
 pub returns-in_ok-put_change-in-Closed-clause-cause : goal.returns-in_ok-put_change-in-Closed-clause-cause
 returns-in_ok-put_change-in-Closed-clause-cause g c m₀ m k₀ k works s fits =

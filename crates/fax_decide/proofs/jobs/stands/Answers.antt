@@ -1,8 +1,0 @@
-use Rattle.fax_decide.proofs.LookingLemmas.{goes_on, stops}
-use Rattle.fax_decide.proofs.jobs.stands.Goals as goal
-
-pub returns : goal.returns
-returns g c = goes_on c.in_ok-state.ensures (λ m k at state. rw (c.fields.ensures.fields, state) at c.answered.ensures)
-
-pub returns-in_err-state : goal.returns-in_err-state
-returns-in_err-state g c = stops c.from_residual.ensures.1 c.in_err-state.ensures (λ m out why. out _ why)
