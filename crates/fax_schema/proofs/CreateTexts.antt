@@ -166,24 +166,65 @@ makes a b sql table it is lacks new = inl (record { table = table; makes = it; i
 
 -- the texts of each step lead wherever it leads
 pub passes : (step : Step) (a b : Schema) → Has (changes step) (a, b) → Passes a.tables a (texts_of step) b
-passes DropIndexes a b has = all_has (Goes DropIndexes) (changes DropIndexes) (a, b)
-    (drops_both vacuumed_tables vacuumed_with_killtime bare_with_calls drops_choice drops_killtime refl refl,
-    (drops_both first_vacuumed first_vacuumed_with_killtime first_bare_calls drops_first_choice drops_first_killtime refl refl,
-    (drops_both first_older_vacuumed first_vacuumed_with_killtime first_bare_calls drops_first_older_choice drops_first_killtime refl refl,
-    (drops_both first_core first_with_killtime first_bare drops_core_choice drops_core_killtime refl refl,
-    (drops_both first_older_core first_with_killtime first_bare drops_older_core_choice drops_core_killtime refl refl, tt))))) has
-passes DropCalls a b has = all_has (Goes DropCalls) (changes DropCalls) (a, b)
-    (drops_last our_tables core_tables drops_calls refl,
-    (drops_last bare_with_calls bare_tables drops_bare_calls refl,
-    (drops_last first_tables first_core drops_first_calls refl,
-    (drops_last first_older first_older_core drops_first_older_calls refl,
-    (drops_last first_bare_calls first_bare drops_first_bare_calls refl, tt))))) has
-passes CreateFirst a b has = all_has (Goes CreateFirst) (changes CreateFirst) (a, b) ((
-    with_jobs, makes no_tables with_jobs CREATE_JOBS.now jobs makes_jobs created_jobs refl refl, refl, (
-    with_grants, makes with_jobs with_grants CREATE_GRANTS.now grants makes_grants created_grants refl refl, refl, (
-    with_holds, makes with_grants with_holds CREATE_HOLDS.now holds makes_holds created_holds refl refl, refl, (
-    with_down, makes with_holds with_down CREATE_DOWN.now down makes_down created_down refl refl, refl, (
-    with_replies, makes with_down with_replies CREATE_REPLIES.now replies makes_replies created_replies refl refl, refl, (
-    first_bare, makes with_replies first_bare CREATE_META.now meta makes_meta created_meta refl refl, refl, refl)))))), tt) has
+passes DropIndexes a b has = all_has (Goes DropIndexes) (changes DropIndexes) (a, b) (
+  drops_both vacuumed_tables vacuumed_with_killtime bare_with_calls drops_choice drops_killtime refl refl,
+  (
+    drops_both first_vacuumed first_vacuumed_with_killtime first_bare_calls drops_first_choice drops_first_killtime refl refl,
+    (
+      drops_both first_older_vacuumed first_vacuumed_with_killtime first_bare_calls drops_first_older_choice drops_first_killtime refl refl,
+      (
+        drops_both first_core first_with_killtime first_bare drops_core_choice drops_core_killtime refl refl,
+        (drops_both first_older_core first_with_killtime first_bare drops_older_core_choice drops_core_killtime refl refl, tt),
+      ),
+    ),
+  ),
+) has
+passes DropCalls a b has = all_has (Goes DropCalls) (changes DropCalls) (a, b) (
+  drops_last our_tables core_tables drops_calls refl,
+  (
+    drops_last bare_with_calls bare_tables drops_bare_calls refl,
+    (
+      drops_last first_tables first_core drops_first_calls refl,
+      (
+        drops_last first_older first_older_core drops_first_older_calls refl,
+        (drops_last first_bare_calls first_bare drops_first_bare_calls refl, tt),
+      ),
+    ),
+  ),
+) has
+passes CreateFirst a b has = all_has (Goes CreateFirst) (changes CreateFirst) (a, b) (
+  (
+    with_jobs,
+    makes no_tables with_jobs CREATE_JOBS.now jobs makes_jobs created_jobs refl refl,
+    refl,
+    (
+      with_grants,
+      makes with_jobs with_grants CREATE_GRANTS.now grants makes_grants created_grants refl refl,
+      refl,
+      (
+        with_holds,
+        makes with_grants with_holds CREATE_HOLDS.now holds makes_holds created_holds refl refl,
+        refl,
+        (
+          with_down,
+          makes with_holds with_down CREATE_DOWN.now down makes_down created_down refl refl,
+          refl,
+          (
+            with_replies,
+            makes with_down with_replies CREATE_REPLIES.now replies makes_replies created_replies refl refl,
+            refl,
+            (
+              first_bare,
+              makes with_replies first_bare CREATE_META.now meta makes_meta created_meta refl refl,
+              refl,
+              refl,
+            ),
+          ),
+        ),
+      ),
+    ),
+  ),
+  tt,
+) has
 passes CreateSecond a b has = all_has (Goes CreateSecond) (changes CreateSecond) (a, b) ((bare_tables, makes first_bare bare_tables CREATE_FLOORS.now floors makes_floors created_floors refl refl, refl, refl), tt) has
 passes CreateIndexes a b has = all_has (Goes CreateIndexes) (changes CreateIndexes) (a, b) ((with_killtime_index, inr (inl makes_killtime), refl, (core_tables, inr (inl makes_choice), refl, refl)), tt) has

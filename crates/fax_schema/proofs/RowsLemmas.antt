@@ -74,7 +74,7 @@ in_more : (x : Table) (all some : List Table) → are_in all some ≡ true → a
 in_more x all [] there = refl
 in_more x all (t ∷ ts) there =
     let parts = and_parts (is_in all t.tree) _ there in
-    and_from _ _ (elim (cases_Bool (x.tree == t.tree)) [ | inl on ↦ rw on refl | inr off ↦ rw off parts.0 ]) (in_more x all ts parts.1)
+    and_from _ _ (elim (cases_Bool (x.tree == t.tree)) [ inl on ↦ rw on refl | inr off ↦ rw off parts.0 ]) (in_more x all ts parts.1)
 
 pub are_self : (tables : List Table) → are_in tables tables ≡ true
 are_self [] = refl

@@ -298,7 +298,11 @@ fn behind_all<'s>(
 }
 
 /// Whether a database has exactly the tables and indexes of this layout.
-pub(crate) fn has_layout(alloc: Global, schema: &Schema, mut layout: Layout) -> Result<bool, AllocError>
+pub(crate) fn has_layout(
+    alloc: Global,
+    schema: &Schema,
+    mut layout: Layout,
+) -> Result<bool, AllocError>
     ensures { IfOk result (λ same. IsTrue same ↔ (schema.now ≡ laid_out (map (λ p. p.now) layout.entry.now))) }
 {
     let mut left = Left {

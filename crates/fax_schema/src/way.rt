@@ -88,7 +88,11 @@ const KNOWN: &[Known] = &[
     Known(FIRST_BARE, &[], 1),
     Known(FIRST_BARE_CALLS, &[Step::DropCalls], 1),
     Known(FIRST_VACUUMED, &[Step::DropIndexes, Step::DropCalls], 1),
-    Known(FIRST_OLDER_VACUUMED, &[Step::DropIndexes, Step::DropCalls], 1),
+    Known(
+        FIRST_OLDER_VACUUMED,
+        &[Step::DropIndexes, Step::DropCalls],
+        1,
+    ),
 ];
 
 /// The layouts of a queue's database.

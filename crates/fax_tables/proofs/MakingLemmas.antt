@@ -115,9 +115,9 @@ module _ {S : Type 0} (g : Ghosts S) where
     -- none of them
     pub along_none : (a : Held S) (texts : List (List ℕ)) → texts ≡ texts_of step → Alters g {A = Unit {0}} {E = Error} P P (IsAlong texts to) a a (Ok tt)
     along_none a texts all = alters_none g a P (IsAlong texts to) tt (λ was.
-      let s = (state g a).now.schema in
-      let has : Has (changes step) (s, to) = subst (λ b. Has (changes step) (s, b)) (was.leads).2 (was.leads).1 in
-      (was.is_open, was.inside, record { passes = subst (λ texts. Passes s.tables s texts to) (sym all) (passes step s to has); rows = only_there s.tables s.tables (state g a).now.trees (are_self s.tables) }))
+        let s = (state g a).now.schema in
+        let has : Has (changes step) (s, to) = subst (λ b. Has (changes step) (s, b)) (was.leads).2 (was.leads).1 in
+        (was.is_open, was.inside, record { passes = subst (λ texts. Passes s.tables s texts to) (sym all) (passes step s to has); rows = only_there s.tables s.tables (state g a).now.trees (are_self s.tables) }))
 
     -- one more
     pub along : (a b c : Held S) (left : List (List ℕ)) (sql : List ℕ) (texts : List (List ℕ)) (r : Result ℕ Error) → left ≡ sql ∷ texts → Alters g {A = Unit {0}} {E = Error} P P (IsAlong left to) a b (Ok tt)

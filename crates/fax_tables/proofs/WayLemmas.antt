@@ -89,26 +89,43 @@ core_kept a b there still was is ours before =
 
 -- what the second has comes to those of the first
 raised : Keeps (first_bare, bare_tables)
-raised before = (inr (inr (inl refl)), λ db after from to rows. renews_raised db after from to
-    (kept_in first_list first_list bare_tables.tables db.trees after.trees refl refl rows) (none_in second_list first_list bare_tables.tables db.trees after.trees refl refl rows))
+raised before = (
+  inr (inr (inl refl)),
+  λ db after from to rows. renews_raised db after from to
+      (kept_in first_list first_list bare_tables.tables db.trees after.trees refl refl rows) (none_in second_list first_list bare_tables.tables db.trees after.trees refl refl rows),
+)
 
 -- no table was there
 made : Keeps (no_tables, first_bare)
 made ours = absurd (not_ours no_tables refl ours)
 
 keeps : (step : Step) (a b : Schema) → Has (changes step) (a, b) → Keeps (a, b)
-keeps DropIndexes a b = all_has Keeps (changes DropIndexes) (a, b)
-    (core_kept vacuumed_tables bare_with_calls refl refl refl refl (inr (inr (inr (inl refl)))),
-    (first_kept first_vacuumed first_bare_calls refl refl refl refl (inr (inr (inr (inr (inr (inr (inr (inr (inr (inr (inl refl))))))))))),
-    (first_kept first_older_vacuumed first_bare_calls refl refl refl refl (inr (inr (inr (inr (inr (inr (inr (inr (inr (inr (inl refl))))))))))),
-    (first_kept first_core first_bare refl refl refl refl (inr (inr (inr (inr (inr (inr (inr (inr (inr (inl refl)))))))))),
-    (first_kept first_older_core first_bare refl refl refl refl (inr (inr (inr (inr (inr (inr (inr (inr (inr (inl refl)))))))))), tt)))))
-keeps DropCalls a b = all_has Keeps (changes DropCalls) (a, b)
-    (core_kept our_tables core_tables refl refl refl refl (inr (inl refl)),
-    (core_kept bare_with_calls bare_tables refl refl refl refl (inr (inr (inl refl))),
-    (first_kept first_tables first_core refl refl refl refl (inr (inr (inr (inr (inr (inr (inr (inl refl)))))))),
-    (first_kept first_older first_older_core refl refl refl refl (inr (inr (inr (inr (inr (inr (inr (inr (inl refl))))))))),
-    (first_kept first_bare_calls first_bare refl refl refl refl (inr (inr (inr (inr (inr (inr (inr (inr (inr (inl refl)))))))))), tt)))))
+keeps DropIndexes a b = all_has Keeps (changes DropIndexes) (a, b) (
+  core_kept vacuumed_tables bare_with_calls refl refl refl refl (inr (inr (inr (inl refl)))),
+  (
+    first_kept first_vacuumed first_bare_calls refl refl refl refl (inr (inr (inr (inr (inr (inr (inr (inr (inr (inr (inl refl))))))))))),
+    (
+      first_kept first_older_vacuumed first_bare_calls refl refl refl refl (inr (inr (inr (inr (inr (inr (inr (inr (inr (inr (inl refl))))))))))),
+      (
+        first_kept first_core first_bare refl refl refl refl (inr (inr (inr (inr (inr (inr (inr (inr (inr (inl refl)))))))))),
+        (first_kept first_older_core first_bare refl refl refl refl (inr (inr (inr (inr (inr (inr (inr (inr (inr (inl refl)))))))))), tt),
+      ),
+    ),
+  ),
+)
+keeps DropCalls a b = all_has Keeps (changes DropCalls) (a, b) (
+  core_kept our_tables core_tables refl refl refl refl (inr (inl refl)),
+  (
+    core_kept bare_with_calls bare_tables refl refl refl refl (inr (inr (inl refl))),
+    (
+      first_kept first_tables first_core refl refl refl refl (inr (inr (inr (inr (inr (inr (inr (inl refl)))))))),
+      (
+        first_kept first_older first_older_core refl refl refl refl (inr (inr (inr (inr (inr (inr (inr (inr (inl refl))))))))),
+        (first_kept first_bare_calls first_bare refl refl refl refl (inr (inr (inr (inr (inr (inr (inr (inr (inr (inl refl)))))))))), tt),
+      ),
+    ),
+  ),
+)
 keeps CreateFirst a b = all_has Keeps (changes CreateFirst) (a, b) (made, tt)
 keeps CreateSecond a b = all_has Keeps (changes CreateSecond) (a, b) (raised, tt)
 keeps CreateIndexes a b = all_has Keeps (changes CreateIndexes) (a, b) (core_kept bare_tables core_tables refl refl refl refl (inr (inl refl)), tt)

@@ -24,8 +24,7 @@ returns c =
     let known = c.in-Some.known.now in
     let way : HasWay known = all_has HasWay c.known_ways.result.now known c.known_ways.ensures.ways it.0 in
     let gains : mid_of known.2 (3 - known.2) UPGRADES ≡ drop known.2 UPGRADES = take_all (3 - known.2) (drop known.2 UPGRADES) (omega (arith, length-drop known.2 UPGRADES)) in
-    let ours : AreOurs (layout_of known) = subst (λ all. Has all (layout_of known)) c.known_ways.ensures.layouts (mapped_has layout_of c.known_ways.result.now known it.0) in
-    (
+    let ours : AreOurs (layout_of known) = subst (λ all. Has all (layout_of known)) c.known_ways.ensures.layouts (mapped_has layout_of c.known_ways.result.now known it.0) in (
       subst AreOurs (sym it.1) ours,
       (way.between, subst (λ s. Leads known.1.now s way.between) (sym it.1) way.loses, subst (λ steps. Leads steps way.between core_tables) (sym gains) way.gains),
     )
