@@ -22,10 +22,16 @@ use std::alloc::{AllocError, Global};
 use std::marker::Model;
 
 /// The answer to one request.
-#[derive(Drop)]
 pub struct Reply {
     status: StatusCode,
     body: Body,
+}
+
+// By hand, so that a proof lets it go in one step.
+impl Drop for Reply {
+    fn drop(self) {
+        let Reply { status: _, body: _ } = self;
+    }
 }
 
 /// A body: JSON in room of its own or in memory, or a text of key lines or of a listing.

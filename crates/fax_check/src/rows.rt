@@ -56,8 +56,12 @@ fn shows_job(alloc: Global, meta: &Meta, held: &[Holder], row: &Row) -> Result<b
     }
     match known(job_in(alloc, row))? {
         Some(job) => {
-            // So its status is UTF-8.
-            let _ = job.fields().status.text();
+            let fields = job.fields();
+            // So its texts are UTF-8.
+            let _ = fields.dial.text();
+            let _ = fields.modem.as_str();
+            let _ = fields.jobtag.as_str();
+            let _ = fields.status.text();
             Ok(job.fields().job < meta.next_job && stands(held, &job))
         }
         None => Ok(false),

@@ -50,7 +50,6 @@ fn is_ended(state: u8) -> bool
     state == State::Done.number() || state == State::Failed.number()
 }
 
-#[tactic(auto, using(crate::proofs::OldJobLemmas::made_of, crate::proofs::OldJobLemmas::unmade))]
 fn brought_job(import: Import, job: u32, t: Moment) -> Result<Job, Refusal>
     ensures { submitted result ≡ recorded (Ok (brought import.state (old_job import job t))) }
 {

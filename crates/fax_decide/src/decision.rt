@@ -30,19 +30,8 @@ pub enum Decision {
 pub(crate) fn take(effect: Effect, reply: Result<Reply, Fault>) -> Result<Decision, Fault>
     ensures { MatchResult reply (λ reply. result ≡ Ok (Decision.Taken effect reply)) (λ fault. result ≡ Err fault) }
 {
-    let (effect, reply) = beside(effect, reply)?;
+    let reply = reply?;
     Ok(Decision::Taken { effect, reply })
-}
-
-/// A value with the reply that goes beside it, if there is one. It may be of any type, so that a proof lets it go in one
-/// step, and not in as many as an effect has parts.
-fn beside<T: Drop>(value: T, reply: Result<Reply, Fault>) -> Result<(T, Reply), Fault>
-    ensures { MatchResult reply (λ reply. result ≡ Ok (value, reply)) (λ fault. result ≡ Err fault) }
-{
-    match reply {
-        Ok(reply) => Ok((value, reply)),
-        Err(fault) => Err(fault),
-    }
 }
 
 /// The reply that tells an answer.

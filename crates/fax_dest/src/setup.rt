@@ -16,7 +16,6 @@ use regex::Regex;
 use std::alloc::{AllocError, Global};
 
 /// Modems, classes of modems, delays, limits and a time zone.
-#[derive(Drop)]
 pub struct Setup {
     modems: Vec<Name>,
     classes: Vec<Class>,
@@ -31,6 +30,24 @@ pub struct Setup {
     zone: Zone,
     ghost short_delays: { (busy ≤ longest_delay) × (no_answer ≤ longest_delay) × (no_carrier ≤ longest_delay) × (other ≤ longest_delay) × (proto ≤ longest_delay) },
     ghost small_numbers: { (1 ≤ max_jobs) × (max_jobs ≤ last_job) × (1 ≤ max_grants) × (max_grants ≤ last_grant) },
+}
+
+// By hand, so that a proof lets it go in one step.
+impl Drop for Setup {
+    fn drop(self) {
+        let Setup {
+            modems: _,
+            classes: _,
+            busy: _,
+            no_answer: _,
+            no_carrier: _,
+            other: _,
+            proto: _,
+            max_jobs: _,
+            max_grants: _,
+            zone: _,
+        } = self;
+    }
 }
 
 /// A name for the modems in whose names a pattern is found.

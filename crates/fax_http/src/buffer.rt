@@ -15,9 +15,15 @@ pub const BUFFER_LIMIT: usize = 81_920;
 const PIECE_LIMIT: usize = 4_096;
 
 /// Bytes that were read and aren't answered yet. It takes no memory once it is made.
-#[derive(Drop)]
 pub struct Buffer {
     bytes: Vec<u8>,
+}
+
+// By hand, so that a proof lets it go in one step.
+impl Drop for Buffer {
+    fn drop(self) {
+        let Buffer { bytes: _ } = self;
+    }
 }
 
 impl Model for Buffer {

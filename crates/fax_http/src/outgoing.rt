@@ -16,11 +16,21 @@ pub(crate) struct Form {
 }
 
 /// A reply as bytes. Making it takes no memory.
-#[derive(Drop)]
 pub struct Outgoing {
     head: Head,
     reply: Reply,
     has_body: bool,
+}
+
+// By hand, so that a proof lets it go in one step.
+impl Drop for Outgoing {
+    fn drop(self) {
+        let Outgoing {
+            head: _,
+            reply: _,
+            has_body: _,
+        } = self;
+    }
 }
 
 impl Model for Outgoing {

@@ -84,9 +84,15 @@ pub struct JobFields {
 }
 
 /// A job within the limits of the queue.
-#[derive(Drop)]
 pub struct Job {
     fields: JobFields,
+}
+
+// By hand, so that a proof lets it go in one step.
+impl Drop for Job {
+    fn drop(self) {
+        let Job { fields: _ } = self;
+    }
 }
 
 impl Model for Job {
@@ -172,7 +178,8 @@ impl Job {
         ensures fields { result ≡ self }
         ensures lawful { IsLawful self }
     {
-        self.fields
+        let Job { fields } = self;
+        fields
     }
 
     /// The job as key lines: the seventeen known tags, then the extra lines.

@@ -39,10 +39,16 @@ struct Place {
 const LAST_END: usize = u32::MAX as usize;
 
 /// Lines with any tags and values. Bytes of the text where no line stands count for nothing.
-#[derive(Drop)]
 pub(crate) struct LineText {
     text: String,
     places: Vec<Place>,
+}
+
+// By hand, so that a proof lets it go in one step.
+impl Drop for LineText {
+    fn drop(self) {
+        let LineText { text: _, places: _ } = self;
+    }
 }
 
 impl Model for LineText {

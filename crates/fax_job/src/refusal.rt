@@ -6,11 +6,11 @@ ghost use Rattle.fax_job.specs.Refusal.{body_word, body_line, refusal_number, re
 use crate::lines::{LineFault, LineKind};
 use crate::order::OrderFault;
 use std::alloc::AllocError;
-use thiserror::Error;
+use std::error::Error;
+use std::fmt;
 
 /// Why a request is refused.
-#[derive(Clone, Copy, Debug, PartialEq, Eq, Error)]
-#[error("refused: {}", self.word())]
+#[derive(Clone, Copy, Debug, PartialEq, Eq)]
 pub enum Refusal {
     /// What came is no HTTP message.
     BadHttp,
@@ -64,9 +64,16 @@ pub enum Refusal {
     FloorHigh,
 }
 
+impl fmt::Display for Refusal {
+    fn fmt<W: fmt::Write>(&self, f: &mut fmt::Formatter<W>) -> fmt::Result {
+        write!(f, "refused: {}", self.word())
+    }
+}
+
+impl Error for Refusal {}
+
 /// What is wrong with the body of a request.
-#[derive(Clone, Copy, Debug, PartialEq, Eq, Error)]
-#[error("{}", self.word())]
+#[derive(Clone, Copy, Debug, PartialEq, Eq)]
 pub enum BodyFault {
     /// A fault of the text of key lines. The line counts from 1; it is 0 where the whole text is none.
     Line { line: u64, kind: LineKind },
@@ -77,6 +84,14 @@ pub enum BodyFault {
     /// JSON that isn't the report.
     BadField,
 }
+
+impl fmt::Display for BodyFault {
+    fn fmt<W: fmt::Write>(&self, f: &mut fmt::Formatter<W>) -> fmt::Result {
+        f.write_str(self.word())
+    }
+}
+
+impl Error for BodyFault {}
 
 impl BodyFault {
     /// The word for it in a reply.

@@ -7,9 +7,15 @@ use std::marker::Model;
 
 /// What an administrator says to those whose number isn't served: 1 to 200 bytes without a control
 /// character.
-#[derive(Drop)]
 pub struct Notice {
     text: String,
+}
+
+// By hand, so that a proof lets it go in one step.
+impl Drop for Notice {
+    fn drop(self) {
+        let Notice { text: _ } = self;
+    }
 }
 
 impl Model for Notice {

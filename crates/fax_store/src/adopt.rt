@@ -59,14 +59,6 @@ impl<S: Alter> Store<S> {
         }
     }
 
-    /// The database, as the store has it.
-    pub fn close(self) -> Connection<S>
-        ensures { result ≡ self.conn }
-    {
-        let Store { conn, alloc: _ } = self;
-        conn
-    }
-
     /// Makes the tables in a database with none, and takes one with ours.
     fn take_tables(&mut self) -> Result<(), StoreFault>
         ensures { Takes Adopts AreAdopted IsAdoptable (shown S.Store self.old) (shown S.Store self.new) result }

@@ -26,10 +26,16 @@ pub(crate) const COMMIT: &str = "COMMIT";
 pub(crate) const ROLLBACK: &str = "ROLLBACK";
 
 /// The queue's tables in a database. Its own calls read what was last committed.
-#[derive(Drop)]
 pub struct Store<S: Alter> {
     pub(crate) conn: Connection<S>,
     pub(crate) alloc: Global,
+}
+
+// By hand, so that a proof lets it go in one step.
+impl<S: Alter + Drop> Drop for Store<S> {
+    fn drop(self) {
+        let Store { conn: _, alloc: _ } = self;
+    }
 }
 
 /// A store whose tables are in memory.
@@ -68,6 +74,14 @@ impl<S: Alter> Store<S> {
     {
         self.conn.execute(BEGIN, &[])?;
         Ok(Work::new(self))
+    }
+
+    /// The database, as the store has it.
+    pub fn close(self) -> Connection<S>
+        ensures { result ≡ self.conn }
+    {
+        let Store { conn, alloc: _ } = self;
+        conn
     }
 
     /// Undoes what was not committed.

@@ -13,9 +13,15 @@ use std::marker::Model;
 
 /// A number to dial in its canonical form: `+` or nothing, then 1 to 32 of the keys `0` to `9`, `*`
 /// and `#`.
-#[derive(Drop)]
 pub struct Dial {
     text: String,
+}
+
+// By hand, so that a proof lets it go in one step.
+impl Drop for Dial {
+    fn drop(self) {
+        let Dial { text: _ } = self;
+    }
 }
 
 impl Model for Dial {

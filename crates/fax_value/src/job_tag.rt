@@ -13,9 +13,15 @@ use std::marker::Model;
 
 /// A client's tag of a job: at most 200 bytes, no control character but tab, not beginning with a
 /// blank.
-#[derive(Drop)]
 pub struct JobTag {
     text: String,
+}
+
+// By hand, so that a proof lets it go in one step.
+impl Drop for JobTag {
+    fn drop(self) {
+        let JobTag { text: _ } = self;
+    }
 }
 
 impl Model for JobTag {

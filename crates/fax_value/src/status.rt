@@ -11,9 +11,15 @@ use std::alloc::{AllocError, Global};
 use std::marker::Model;
 
 /// What a job's status line says. The texts that the queue itself gives take no memory.
-#[derive(Drop)]
 pub struct Status {
     text: StatusText,
+}
+
+// By hand, so that a proof lets it go in one step.
+impl Drop for Status {
+    fn drop(self) {
+        let Status { text: _ } = self;
+    }
 }
 
 impl Model for Status {

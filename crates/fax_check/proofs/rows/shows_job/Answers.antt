@@ -1,7 +1,4 @@
-use Rattle.std.proofs.Common.{◌≡◌, ◌∙◌, ◌&&◌, nat_lt, Ok, subst, ap, rules}
-use Rattle.std.specs.Str.{IsUtf8}
-use Rattle.std.proofs.lemmas.Str.{IsUtf8-string_bytes}
-use Rattle.fax_job.specs.declared.job.JobFields.{JobFields}
+use Rattle.std.proofs.Common.{◌≡◌, ◌&&◌, nat_lt, Ok, subst, rules}
 use Rattle.fax_check.specs.Whole.{stands}
 use Rattle.fax_check.proofs.RowsLemmas.{job_decides, known_none, known_some, not_strange, read_is, whole_row}
 use Rattle.fax_core.proofs.FitsLemmas.{record_again}
@@ -18,9 +15,9 @@ returns-after-fields-meta-clause-right c =
     let read : c.job_in.result ≡ Ok f = known_some c.job_in.result f (search rules) in
     let shown : c.args.row.now ≡ job_shown f = whole_row c.args.row.now (job_shown f) (search rules) (search rules) in
     let formed : IsFormed f = record {
-      dial = record { formed = search rules; utf8 = subst IsUtf8 (c.drop.view_is ∙ ap (λ (j : JobFields). j.dial) c.job.view_is) (IsUtf8-string_bytes c.drop.inside.text) };
-      modem = record { formed = search rules; utf8 = subst IsUtf8 (c.drop-in-Some.view_is ∙ ap (λ (j : JobFields). j.modem) c.job.view_is) (IsUtf8-string_bytes c.drop-in-Some.inside.text) };
-      jobtag = record { formed = search rules; utf8 = subst IsUtf8 (c.drop-in-Some-2.view_is ∙ ap (λ (j : JobFields). j.jobtag) c.job.view_is) (IsUtf8-string_bytes c.drop-in-Some-2.inside.text) };
+      dial = record { formed = search rules; utf8 = search rules };
+      modem = record { formed = search rules; utf8 = search rules };
+      jobtag = record { formed = search rules; utf8 = search rules };
       status = record { formed = search rules; utf8 = search rules };
       extra = search rules;
       tts = search rules;
