@@ -6,11 +6,13 @@ use Rattle.std.proofs.lemmas.Bool.{and_parts}
 use Rattle.clap.proofs.OnLiterals.{clap_on_literals}
 use Rattle.clap.specs.Faults.{fault_of, is_simple_and_free}
 use Rattle.clap.specs.Kinds.{IsAmong}
-use Rattle.clap.specs.Simple.{is_simple, subcommand_of}
+use Rattle.clap.specs.Simple.{App, app_of, is_simple, subcommand_of, with_subcommand}
 use Rattle.clap.specs.Walk.{Text}
 use Rattle.clap.specs.declared.error.kind.ErrorKind.{ErrorKind}
 use Rattle.clap.specs.declared.error.kind.ErrorKind.TheVariants.{OutOfMemory}
-use Rattle.std.proofs.Common.{◌∷◌, Result}
+use Rattle.std.proofs.Common.{◌∷◌, ap₂, IfOk, MatchResult, Ok, Result}
+use Rattle.clap.specs.declared.builder.command.Command.{Command}
+use Rattle.clap.specs.declared.builder.command.Command.TheViews.{out-Command as fields_of}
 use Rattle.fax_text.proofs.RefusedWords.{gives_help, gives_usage}
 use Rattle.fax_text.proofs.ReplayWords.{gives_replay}
 use Rattle.fax_text.specs.CommandLine.{IsFixed}
@@ -40,6 +42,14 @@ not_true false e = refl
 pub plain_is_local : (groups external globals others : Bool) → (groups && (external && (not globals && others))) ≡ true → globals ≡ false
 plain_is_local groups external globals others e =
     not_true globals (and_parts (not globals) others (and_parts external (not globals && others) (and_parts groups (external && (not globals && others)) e).1).1).0
+
+-- a command that was made is added
+pub adds_made : {E : Type 0} (program whole : Command) (made : Result Command E) (is sub : App)
+    → MatchResult made (λ command. (fields_of command).has_globals ≡ false → app_of whole ≡ with_subcommand (app_of program) (app_of command).top) (λ fault. ⊥)
+    → IfOk made (λ command. app_of command ≡ sub) → IfOk made (λ command. (fields_of command).has_globals ≡ false)
+    → app_of program ≡ is → app_of whole ≡ with_subcommand is sub.top
+adds_made program whole (Ok command) is sub adds shape local e = adds local ∙ ap₂ with_subcommand e (ap (λ (a : App). a.top) shape)
+adds_made program whole (Err fault) is sub adds shape local e = absurd adds
 
 -- a fault of words has one of the kinds that they have, unless memory ran out
 pub reads_fault : (words : List Text) (kind : ErrorKind) (fault : WordsFault)

@@ -59,19 +59,17 @@ pub(crate) fn import_command<'a>(alloc: Global) -> Result<Command<'a>, AllocErro
     ensures shape { IfOk result (λ command. app_of command ≡ import_command) }
     ensures local { IfOk result (λ command. (fields_of command).has_globals ≡ false) }
 {
-    let client = long_option(alloc, "client", "NAME", "Who asks").required(true);
-    let request = long_option(
-        alloc,
-        "request",
-        "NUMBER",
-        "The first request's number; each file has the next",
-    )
-    .required(true);
     Command::new(alloc, IMPORT)
         .about("Prints the requests that bring the jobs of an older queue in")
         .after_help("Example:\n  faxqd import --client old --request 1 sendq/q1 sendq/q2")
-        .arg(client)?
-        .arg(request)?
+        .arg(long_option(alloc, "client", "NAME", "Who asks").required(true))?
+        .arg(long_option(
+            alloc,
+            "request",
+            "NUMBER",
+            "The first request's number; each file has the next",
+        )
+        .required(true))?
         .arg(files_argument(alloc))
 }
 

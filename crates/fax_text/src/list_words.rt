@@ -48,14 +48,10 @@ pub(crate) fn list_command<'a>(alloc: Global) -> Result<Command<'a>, AllocError>
     ensures shape { IfOk result (λ command. app_of command ≡ list_command) }
     ensures local { IfOk result (λ command. (fields_of command).has_globals ≡ false) }
 {
-    let database = long_option(alloc, "db", "FILE", "The SQLite file that has the queue").required(
-        true,
-    );
-    let moment = long_option(alloc, "moment", "SECONDS", "What counts as now, since 1970");
     let list = Command::new(alloc, LIST)
         .about("Prints the listing of the jobs in a database's file")
         .after_help("Example:\n  faxqd list --db queue.db --setup office.setup")
-        .arg(database)?
-        .arg(moment)?;
+        .arg(long_option(alloc, "db", "FILE", "The SQLite file that has the queue").required(true))?
+        .arg(long_option(alloc, "moment", "SECONDS", "What counts as now, since 1970"))?;
     with_files(alloc, list)
 }

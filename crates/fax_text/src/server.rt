@@ -117,41 +117,37 @@ pub(crate) fn serve_command<'a>(alloc: Global) -> Result<Command<'a>, AllocError
     ensures shape { IfOk result (λ command. app_of command ≡ serve_command) }
     ensures local { IfOk result (λ command. (fields_of command).has_globals ≡ false) }
 {
-    let database = long_option(
-        alloc,
-        "db",
-        "FILE",
-        "The SQLite file that has the queue, or is to have it",
-    )
-    .required(true);
-    let address = long_option(
-        alloc,
-        "listen",
-        "ADDRESS",
-        "The host and the port to listen on, as 127.0.0.1:4559",
-    )
-    .required(true);
-    let connections = long_option(
-        alloc,
-        "connections",
-        "N",
-        "Connections to serve, one by one [default: 1000]",
-    );
-    let timeout = long_option(
-        alloc,
-        "timeout",
-        "SECONDS",
-        "How long a read or a write may wait; a connection,\nsix times as long [default: 10]",
-    );
     let serve = Command::new(alloc, SERVE)
         .about("Serves connections, over the tables in a file")
         .after_help(
             "Example:\n  faxqd serve --db queue.db --listen 127.0.0.1:4559 --setup office.setup",
         )
-        .arg(database)?
-        .arg(address)?
-        .arg(connections)?
-        .arg(timeout)?;
+        .arg(long_option(
+            alloc,
+            "db",
+            "FILE",
+            "The SQLite file that has the queue, or is to have it",
+        )
+        .required(true))?
+        .arg(long_option(
+            alloc,
+            "listen",
+            "ADDRESS",
+            "The host and the port to listen on, as 127.0.0.1:4559",
+        )
+        .required(true))?
+        .arg(long_option(
+            alloc,
+            "connections",
+            "N",
+            "Connections to serve, one by one [default: 1000]",
+        ))?
+        .arg(long_option(
+            alloc,
+            "timeout",
+            "SECONDS",
+            "How long a read or a write may wait; a connection,\nsix times as long [default: 10]",
+        ))?;
     with_files(alloc, serve)
 }
 
@@ -160,12 +156,12 @@ pub(crate) fn with_files<'a>(alloc: Global, command: Command<'a>) -> Result<Comm
     ensures shape { IfOk result (λ made. app_of made ≡ with_files (app_of command.entry)) }
     ensures local { IfOk result (λ made. (fields_of command.entry).has_globals ≡ false → (fields_of made).has_globals ≡ false) }
 {
-    let setup = long_option(
-        alloc,
-        "setup",
-        "FILE",
-        "The modems, their classes, delays and limits",
-    );
-    let controls = long_option(alloc, "controls", "FILE", "What holds for which numbers");
-    command.arg(setup)?.arg(controls)
+    command
+        .arg(long_option(
+            alloc,
+            "setup",
+            "FILE",
+            "The modems, their classes, delays and limits",
+        ))?
+        .arg(long_option(alloc, "controls", "FILE", "What holds for which numbers"))
 }

@@ -1,8 +1,9 @@
 //! The words of the command line, read by `clap`.
 
-ghost use Rattle.std.specs.Prelude.{◌≡◌, ◌≤◌, ℕ, List, ◌∷◌, false, codes, IfErr, IfOk, IfSome, IsErr, Some, map, option_and_then, string_bytes};
+ghost use Rattle.std.specs.Prelude.{◌≡◌, ◌≤◌, ℕ, List, ◌∷◌, false, codes, IfErr, IfOk, IfSome, IsErr, MatchResult, Some, map, option_and_then, string_bytes};
 ghost use Rattle.std.specs.Option.{option_copied};
-ghost use Rattle.clap.specs.Words.{app_of, first_of, found_of, kind_of, rows_of, rule_of, subcommand_rows_of};
+ghost use Rattle.clap.specs.Words.{app_of, first_of, found_of, kind_of, rows_of, rule_of, subcommand_rows_of, with_subcommand};
+ghost use Rattle.clap.specs.declared.builder.command.Command.TheViews.{out-Command as fields_of};
 ghost use Rattle.fax_text.specs.declared.sendfax.SendPlan.{SendPlan};
 ghost use Rattle.fax_text.specs.CommandLine.{IsFixed};
 ghost use Rattle.fax_text.specs.Misuse.{IsMisuse, IsMisuseOf, misuse_text};
@@ -272,16 +273,28 @@ pub(crate) fn moment_in(options: &ArgMatches<'_>) -> Option<Option<u64>>
 fn command<'a>(alloc: Global) -> Result<Command<'a>, AllocError>
     ensures { IfOk result (λ command. app_of command ≡ program) }
 {
-    Command::new(alloc, "faxqd")
+    let program = Command::new(alloc, "faxqd")
         .about("The send queue of a fax server")
         .after_help("Example:\n  faxqd serve --db queue.db --listen 127.0.0.1:4559")
-        .subcommand_required(true)
-        .subcommand(replay_command(alloc)?)?
-        .subcommand(serve_command(alloc)?)?
-        .subcommand(list_command(alloc)?)?
-        .subcommand(check_command(alloc)?)?
-        .subcommand(sendfax_command(alloc)?)?
-        .subcommand(import_command(alloc)?)
+        .subcommand_required(true);
+    let program = with_command(program, replay_command(alloc))?;
+    let program = with_command(program, serve_command(alloc))?;
+    let program = with_command(program, list_command(alloc))?;
+    let program = with_command(program, check_command(alloc))?;
+    let program = with_command(program, sendfax_command(alloc))?;
+    with_command(program, import_command(alloc))
+}
+
+/// Adds a command, unless memory ran out for it.
+fn with_command<'a>(
+    program: Command<'a>,
+    made: Result<Command<'a>, AllocError>,
+) -> Result<Command<'a>, AllocError>
+    ensures { IfOk result (λ whole. MatchResult made.entry
+        (λ command. (fields_of command).has_globals ≡ false → app_of whole ≡ with_subcommand (app_of program.entry) (app_of command).top)
+        (λ fault. ⊥)) }
+{
+    program.subcommand(made?)
 }
 
 /// The command that hands in a job.

@@ -13,17 +13,17 @@ as_needed r = record r { required = true }
 
 pub returns-clause-shape : goal.returns-clause-shape
 returns-clause-shape c =
-    let database : rule_of c.required-database.result ≡ required (long_option (codes "db")) = ap rule_of c.required-database.ensures ∙ ap as_needed c.long_option.ensures.rule in
-    let no_database : c.required-database.result.global ≡ false = ap (λ (a : Arg). a.global) c.required-database.ensures ∙ c.long_option.ensures.local in
+    let database : rule_of c.required.result ≡ required (long_option (codes "db")) = ap rule_of c.required.ensures ∙ ap as_needed c.long_option.ensures.rule in
+    let no_database : c.required.result.global ≡ false = ap (λ (a : Arg). a.global) c.required.ensures ∙ c.long_option.ensures.local in
     let start : app_of c.after_help.result ≡ new_app (codes "list") = ap app_of_fields c.after_help.ensures ∙ ap app_of_fields c.about.ensures ∙ c.new.ensures.app in
     let first = c.in_ok-arg.ensures.shape no_database ∙ ap₂ with_rule start database in
-    let second = c.in_ok-list.ensures.shape c.long_option-moment.ensures.local ∙ ap₂ with_rule first c.long_option-moment.ensures.rule in
+    let second = c.in_ok-list.ensures.shape c.long_option-2.ensures.local ∙ ap₂ with_rule first c.long_option-2.ensures.rule in
     IfOk-weaker c.with_files.result _ _ (λ made e. e ∙ ap with_files second) c.with_files.ensures.shape
 
 pub returns-clause-local : goal.returns-clause-local
 returns-clause-local c =
-    let database : c.required-database.result.global ≡ false = ap (λ (a : Arg). a.global) c.required-database.ensures ∙ c.long_option.ensures.local in
+    let database : c.required.result.global ≡ false = ap (λ (a : Arg). a.global) c.required.ensures ∙ c.long_option.ensures.local in
     let start : (fields_of c.after_help.result).has_globals ≡ false = ap (λ f. f.has_globals) c.after_help.ensures ∙ ap (λ f. f.has_globals) c.about.ensures ∙ c.new.ensures.local in
     let first = c.in_ok-arg.ensures.globals ∙ ap₂ (λ a b. a || b) start database in
-    let second = c.in_ok-list.ensures.globals ∙ ap₂ (λ a b. a || b) first c.long_option-moment.ensures.local in
+    let second = c.in_ok-list.ensures.globals ∙ ap₂ (λ a b. a || b) first c.long_option-2.ensures.local in
     IfOk-weaker c.with_files.result _ _ (λ made local. local second) c.with_files.ensures.local

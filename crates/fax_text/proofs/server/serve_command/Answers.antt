@@ -13,24 +13,24 @@ as_needed r = record r { required = true }
 
 pub returns-clause-shape : goal.returns-clause-shape
 returns-clause-shape c =
-    let database : rule_of c.required-database.result ≡ required (long_option (codes "db")) = ap rule_of c.required-database.ensures ∙ ap as_needed c.long_option.ensures.rule in
-    let address : rule_of c.required-address.result ≡ required (long_option (codes "listen")) = ap rule_of c.required-address.ensures ∙ ap as_needed c.long_option-2.ensures.rule in
-    let no_database : c.required-database.result.global ≡ false = ap (λ (a : Arg). a.global) c.required-database.ensures ∙ c.long_option.ensures.local in
-    let no_address : c.required-address.result.global ≡ false = ap (λ (a : Arg). a.global) c.required-address.ensures ∙ c.long_option-2.ensures.local in
+    let database : rule_of c.required.result ≡ required (long_option (codes "db")) = ap rule_of c.required.ensures ∙ ap as_needed c.long_option.ensures.rule in
+    let address : rule_of c.required-2.result ≡ required (long_option (codes "listen")) = ap rule_of c.required-2.ensures ∙ ap as_needed c.long_option-2.ensures.rule in
+    let no_database : c.required.result.global ≡ false = ap (λ (a : Arg). a.global) c.required.ensures ∙ c.long_option.ensures.local in
+    let no_address : c.required-2.result.global ≡ false = ap (λ (a : Arg). a.global) c.required-2.ensures ∙ c.long_option-2.ensures.local in
     let start : app_of c.after_help.result ≡ new_app (codes "serve") = ap app_of_fields c.after_help.ensures ∙ ap app_of_fields c.about.ensures ∙ c.new.ensures.app in
     let first = c.in_ok-arg.ensures.shape no_database ∙ ap₂ with_rule start database in
     let second = c.in_ok-arg-2.ensures.shape no_address ∙ ap₂ with_rule first address in
-    let third = c.in_ok-arg-3.ensures.shape c.long_option-connections.ensures.local ∙ ap₂ with_rule second c.long_option-connections.ensures.rule in
-    let fourth = c.in_ok-serve.ensures.shape c.long_option-timeout.ensures.local ∙ ap₂ with_rule third c.long_option-timeout.ensures.rule in
+    let third = c.in_ok-arg-3.ensures.shape c.long_option-3.ensures.local ∙ ap₂ with_rule second c.long_option-3.ensures.rule in
+    let fourth = c.in_ok-serve.ensures.shape c.long_option-4.ensures.local ∙ ap₂ with_rule third c.long_option-4.ensures.rule in
     IfOk-weaker c.with_files.result _ _ (λ made e. e ∙ ap with_files fourth) c.with_files.ensures.shape
 
 pub returns-clause-local : goal.returns-clause-local
 returns-clause-local c =
-    let database : c.required-database.result.global ≡ false = ap (λ (a : Arg). a.global) c.required-database.ensures ∙ c.long_option.ensures.local in
-    let address : c.required-address.result.global ≡ false = ap (λ (a : Arg). a.global) c.required-address.ensures ∙ c.long_option-2.ensures.local in
+    let database : c.required.result.global ≡ false = ap (λ (a : Arg). a.global) c.required.ensures ∙ c.long_option.ensures.local in
+    let address : c.required-2.result.global ≡ false = ap (λ (a : Arg). a.global) c.required-2.ensures ∙ c.long_option-2.ensures.local in
     let start : (fields_of c.after_help.result).has_globals ≡ false = ap (λ f. f.has_globals) c.after_help.ensures ∙ ap (λ f. f.has_globals) c.about.ensures ∙ c.new.ensures.local in
     let first = c.in_ok-arg.ensures.globals ∙ ap₂ (λ a b. a || b) start database in
     let second = c.in_ok-arg-2.ensures.globals ∙ ap₂ (λ a b. a || b) first address in
-    let third = c.in_ok-arg-3.ensures.globals ∙ ap₂ (λ a b. a || b) second c.long_option-connections.ensures.local in
-    let fourth = c.in_ok-serve.ensures.globals ∙ ap₂ (λ a b. a || b) third c.long_option-timeout.ensures.local in
+    let third = c.in_ok-arg-3.ensures.globals ∙ ap₂ (λ a b. a || b) second c.long_option-3.ensures.local in
+    let fourth = c.in_ok-serve.ensures.globals ∙ ap₂ (λ a b. a || b) third c.long_option-4.ensures.local in
     IfOk-weaker c.with_files.result _ _ (λ made local. local fourth) c.with_files.ensures.local
