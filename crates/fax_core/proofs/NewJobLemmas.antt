@@ -16,7 +16,7 @@ use Rattle.fax_job.specs.Pair.{Pair, are_unknown, extra_of}
 use Rattle.fax_job.specs.Tag.{is_known}
 use Rattle.fax_core.specs.Decisions.{new_job}
 use Rattle.fax_core.specs.Job.{Job, job_of, fields_of}
-use Rattle.fax_core.specs.Submission.{recorded, ReadOrdersAreLawful}
+use Rattle.fax_core.specs.Submission.{ReadOrdersAreLawful}
 use Rattle.fax_core.proofs.FitsLemmas.{job_again}
 use Rattle.fax_core.proofs.RecordLemmas.{IsKilltime, IsWithin, lawful_from}
 
@@ -165,7 +165,3 @@ new_again o n t = job_again (new_job o n t) refl
 pub made : (j : Job) (f g : JobFields) (lawful : Bool) → job_of f ≡ j → cond lawful (Some f) None ≡ Some g → Ok (job_of g) ≡ cond lawful (Ok j) (Err Unavailable)
 made j f g true again e = ap (λ (o : Option JobFields). Ok (job_of (unwrap_or o f))) (sym e) ∙ ap (λ (k : Job). Ok k) again
 made j f g false again e = cc
-
--- the job that is made of the record is the new one
-pub made_new : (o : Order) (n t : ℕ) (g : JobFields) → cond (is_lawful (fields_of (new_job o n t))) (Some (fields_of (new_job o n t))) None ≡ Some g → Ok (job_of g) ≡ recorded (Ok (new_job o n t))
-made_new o n t g e = made (new_job o n t) (fields_of (new_job o n t)) g (is_lawful (fields_of (new_job o n t))) (new_again o n t) e

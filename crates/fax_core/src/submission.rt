@@ -50,7 +50,6 @@ pub(crate) fn is_over(pages: u16, limit: Option<u16>) -> bool
     }
 }
 
-#[tactic(auto, using(crate::proofs::NewJobLemmas::made_new))]
 fn new_job(order: Order, job: u32, t: Moment) -> Result<Job, Refusal>
     ensures { submitted result ≡ recorded (Ok (new_job order job t)) }
 {

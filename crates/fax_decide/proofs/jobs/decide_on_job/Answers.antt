@@ -1,13 +1,16 @@
 use Rattle.std.proofs.Common.{refl, ap, subst, sym, option_map, IfOk, ◌∙◌}
 use Rattle.fax_core.specs.Ageing.{aged}
+use Rattle.fax_core.specs.Machine.{on_job}
 use Rattle.fax_decide.specs.Decision.{Decides}
+use Rattle.fax_decide.specs.Fault.{fault_of}
 use Rattle.fax_decide.specs.Records.{job_in}
 use Rattle.fax_decide.specs.Settings.{settings_of}
 use Rattle.fax_decide.specs.declared.decision.Decision.TheVariants.{Refused}
 use Rattle.fax_decide.proofs.DecisionLemmas.{refused_as}
+use Rattle.fax_decide.proofs.FaultLemmas.{both_sides}
 use Rattle.fax_decide.proofs.JobLemmas.{on_job_is}
 use Rattle.fax_decide.proofs.KeptLemmas.{job_keeps}
-use Rattle.fax_decide.proofs.LookingLemmas.{both, gives, goes_on}
+use Rattle.fax_decide.proofs.LookingLemmas.{both, gives, goes_on, stops}
 use Rattle.fax_decide.proofs.RecordLemmas.{found_itself}
 use Rattle.fax_decide.proofs.jobs.decide_on_job.Goals as goal
 
@@ -28,3 +31,13 @@ returns-in-Err g c = goes_on c.in_ok-job.ensures.consults (λ m k at found.
           (refused_as refl c.refused-in-Err.ensures),
       λ read. tt,
     ))
+
+pub returns-in_err-job : goal.returns-in_err-job
+returns-in_err-job g c = stops c.from_residual.ensures.1 c.in_err-job.ensures.consults (λ m out found. both_sides c.from_residual.result _ (out _ (ap fault_of found)))
+
+pub returns-in_default : goal.returns-in_default
+returns-in_default g c = goes_on c.in_ok-job.ensures.consults (λ m k at found. (
+  subst (λ job. Decides (on_job (settings_of c.args.office.now.setup c.args.office.now.controls) (aged c.args.t m) c.args.t c.args.ask job) m c.args.t (Refused c.refused.result))
+      (sym (sym found ∙ ap (option_map (job_in (aged c.args.t m))) c.in_default.is)) (refused_as refl c.refused.ensures),
+  λ read. tt,
+))

@@ -3,6 +3,7 @@ use Rattle.fax_job.specs.Pair.{Pair}
 use Rattle.fax_job.specs.declared.job.JobFields.{JobFields}
 use Rattle.fax_tables.specs.Job.{brief, brief_shown}
 use Rattle.fax_tables.specs.Row.{HasValues}
+use Rattle.fax_tables.proofs.ResultLemmas.{passes_on}
 use Rattle.fax_tables.proofs.RowLemmas.{brief_lawful, made, not_none}
 use Rattle.fax_tables.proofs.jobs.brief_in.Goals as goal
 
@@ -21,3 +22,7 @@ returns-in-Some-clause-stands c =
     let first = c.in_ok-fields.ensures.stands in
     subst (λ (job : JobFields). HasValues c.args.row.now 0 (brief_shown job) × (job.extra ≡ [])) (sym (made c.in_ok-fields.fields c.new-2.result c.in-Some.job c.new-2.ensures c.in-Some.is))
     (first.0, first.1 ∙ c.new.ensures)
+
+pub returns-in_err-fields-clause-found : goal.returns-in_err-fields-clause-found
+returns-in_err-fields-clause-found c job is lawful formed =
+    passes_on _ _ _ c.from_residual.ensures.1 (c.in_err-fields.ensures.found job [] is lawful formed)

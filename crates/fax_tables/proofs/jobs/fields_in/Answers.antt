@@ -7,6 +7,10 @@ pub returns-in_err-number_at-clause-found : goal.returns-in_err-number_at-clause
 returns-in_err-number_at-clause-found c job behind is lawful formed =
     passes_on _ _ _ c.from_residual.ensures.1 (c.in_err-number_at.ensures.found _ (begins job behind is refl refl) (fits job lawful).number)
 
+pub returns-in_err-dial_at-clause-found : goal.returns-in_err-dial_at-clause-found
+returns-in_err-dial_at-clause-found c job behind is lawful formed =
+    passes_on _ _ _ c.from_residual-in_err-dial_at.ensures.1 (c.in_err-dial_at.ensures.found _ (begins job behind is refl refl) formed.dial)
+
 pub returns-in_err-name_at-clause-found : goal.returns-in_err-name_at-clause-found
 returns-in_err-name_at-clause-found c job behind is lawful formed =
     passes_on _ _ _ c.from_residual-in_err-name_at.ensures.1 (c.in_err-name_at.ensures.found _ (begins job behind is refl refl) formed.modem)

@@ -44,3 +44,17 @@ pub returns-in_ok-put_change-in-Closed-clause-cause : goal.returns-in_ok-put_cha
 returns-in_ok-put_change-in-Closed-clause-cause g c m₀ m k₀ k works s fits =
     let fit = rw c.in-Closed.is at fits in
     c.close_grant.ensures.cause m₀ _ k₀ _ (c.put_change-in-Closed.ensures.changes m₀ m k₀ k fit.suits works) s tt
+
+pub returns-in-ChangedJob-clause-changes : goal.returns-in-ChangedJob-clause-changes
+returns-in-ChangedJob-clause-changes g c m₀ m k₀ k suits works =
+    rw c.in-ChangedJob.is (c.put_change.ensures.changes m₀ m k₀ k (rw c.in-ChangedJob.is at suits) works)
+
+pub returns-in_err-put_change-in-NewGrant-clause-changes : goal.returns-in_err-put_change-in-NewGrant-clause-changes
+returns-in_err-put_change-in-NewGrant-clause-changes g c m₀ m k₀ k suits works =
+    refused_any _ _ m₀ _ _ k₀ _ _ c.in_err-put_change-in-NewGrant.ensures.leaves.fails
+    (c.put_change-in-NewGrant.ensures.changes m₀ m k₀ k (rw c.in-NewGrant.is at suits) works)
+
+pub returns-in_err-put_change-in-Closed-clause-changes : goal.returns-in_err-put_change-in-Closed-clause-changes
+returns-in_err-put_change-in-Closed-clause-changes g c m₀ m k₀ k suits works =
+    refused_any _ _ m₀ _ _ k₀ _ _ c.in_err-put_change-in-Closed.ensures.leaves.fails
+    (c.put_change-in-Closed.ensures.changes m₀ m k₀ k (rw c.in-Closed.is at suits) works)

@@ -37,3 +37,9 @@ returns-in_err-insert_grant g c =
     writes_if_refused g.S.Store _ told (runs_then g.S.Store (runs_of g.S.Store c.in_ok-meta.ensures.leaves) c.in_err-insert_grant.ensures.leaves) (λ m₀ m k₀ k works s fits.
     let first = reads_on g.S.Store c.in_ok-meta.ensures.leaves c.in_ok-meta.ensures.answers m₀ m k₀ k works (c.insert_grant.ensures.leaves.served s) in
     refused_as c.from_residual-in_err-insert_grant.result c.in_err-insert_grant.field-0.0 told (c.in_err-insert_grant.ensures.cause m₀ m k₀ k (λ _. first.1) s (fits.0, fits.1, fits.2)))
+
+pub returns-in_err-meta : goal.returns-in_err-meta
+returns-in_err-meta g c =
+    let told = c.from_residual.ensures.1 in
+    writes_if_refused g.S.Store _ told (runs_of g.S.Store c.in_err-meta.ensures.leaves) (λ m₀ m k₀ k works s fits.
+    refused_as c.from_residual.result c.in_err-meta.field-0.0 told (c.in_err-meta.ensures.answers m k (λ at. ((works at).goes_on refl).means) s))

@@ -1,8 +1,8 @@
-use Rattle.std.proofs.Common.{◌≡◌, true, false, sym, ◌∙◌, rules}
+use Rattle.std.proofs.Common.{◌≡◌, true, false, refl, sym, ◌∙◌, rules}
 use Rattle.fax_core.specs.Machine.{is_down, with_mark}
 use Rattle.fax_value.specs.Name.{IsName}
 use Rattle.fax_store.proofs.ModemLemmas as modems
-use Rattle.fax_store.proofs.FrameLemmas.{inserts_with, move_by, only_unavailable, reads_on, runs_of, runs_then}
+use Rattle.fax_store.proofs.FrameLemmas.{inserts_with, move_by, only_unavailable, reads_on, refused_as, runs_of, runs_then, writes_if_refused}
 use Rattle.fax_store.proofs.store.Store.add_mark.Goals as goal
 
 pub returns-then-branch : goal.returns-then-branch
@@ -29,3 +29,9 @@ returns g c =
           only_unavailable _ _ _ (modems.params modem) c.insert.result (λ m k. is_down modem m ≡ false) inserts.leaves.served inserts.told
           (λ m k means free e h. modems.mark_goes modem _ _ m k means free e h) m₀ m k₀ k (λ _. first.1) s (sym first.0 ∙ c.if-branch.false);
     }
+
+pub returns-in_err-is_down : goal.returns-in_err-is_down
+returns-in_err-is_down g c =
+    let told = c.from_residual.ensures.1 in
+    writes_if_refused g.S.Store _ told (runs_of g.S.Store c.in_err-is_down.ensures.leaves) (λ m₀ m k₀ k works s fits.
+    refused_as c.from_residual.result c.in_err-is_down.field-0.0 told (c.in_err-is_down.ensures.answers m k (λ at. ((works at).goes_on refl).means) s))

@@ -1,7 +1,7 @@
 use Rattle.std.proofs.Common.{rules}
 use Rattle.fax_store.specs.Job.{with_expired_in}
 use Rattle.fax_store.proofs.JobLemmas.{expired_params, jobs_expired}
-use Rattle.fax_store.proofs.FrameLemmas.{edits_with, reads_on, runs_of, runs_then, writes_by}
+use Rattle.fax_store.proofs.FrameLemmas.{edits_with, reads_on, runs_of, runs_then, writes_by, writes_refused}
 use Rattle.fax_store.proofs.store.Store.expire_in.Goals as goal
 
 pub returns-then-branch : goal.returns-then-branch
@@ -24,3 +24,7 @@ returns g c = record {
       rw (first.0 c.if-branch.false) first.1;
   cause = search rules;
 }
+
+pub returns-in_err-has_expired : goal.returns-in_err-has_expired
+returns-in_err-has_expired g c =
+    writes_refused g.S.Store _ c.from_residual.ensures.1 (runs_of g.S.Store c.in_err-has_expired.ensures.leaves) c.in_err-has_expired.ensures.cause

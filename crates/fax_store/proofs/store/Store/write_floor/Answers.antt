@@ -2,7 +2,7 @@ use Rattle.std.proofs.Common.{rules}
 use Rattle.fax_core.specs.Ledger.{floors_with}
 use Rattle.fax_store.proofs.CallLemmas.{params}
 use Rattle.fax_store.proofs.FloorLemmas.{floor_gone, floor_params, floor_set}
-use Rattle.fax_store.proofs.FrameLemmas.{edits_with, runs_then, step_by, writes_by}
+use Rattle.fax_store.proofs.FrameLemmas.{edits_with, runs_then, step_by, writes_by, writes_where_refused}
 use Rattle.fax_store.proofs.store.Store.write_floor.Goals as goal
 
 pub returns : goal.returns
@@ -17,5 +17,9 @@ returns g c = record {
       step_by _ _ _ (floor_params client floor) 11 c.run-2.result m₀ m m k₀ (record k { floor = floors_with client 0 k.floor }) _
       set.leaves.served (λ _. first.written m₀ m k₀ k works (set.leaves.served s)) s
       (set.ran s.clean) (set.left s.clean) set.cause (λ means has. floor_set client floor _ _ m k means name c.requires.0 c.requires.1 has);
-  cause = search rules;
+  cause = c.run-2.ensures.cause;
 }
+
+pub returns-in_err-run : goal.returns-in_err-run
+returns-in_err-run g c =
+    writes_where_refused g.S.Store _ c.from_residual.ensures.1 c.in_err-run.ensures.leaves c.in_err-run.ensures.cause
