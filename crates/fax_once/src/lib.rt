@@ -3,6 +3,7 @@
 
 mod acceptance;
 mod arrival;
+mod floor;
 pub mod laws;
 mod queue;
 mod refusing;

@@ -4,7 +4,7 @@
 //! bytes are made before its commit. A refused request changes nothing, and neither does a repeat of an
 //! accepted one, which gets the kept reply.
 
-ghost use Rattle.std.specs.Prelude.{◌≡◌, ◌<◌, ◌^◌, false, IfOk, IsTrue, None, Some, OnErr, if◌then◌else◌};
+ghost use Rattle.std.specs.Prelude.{◌≡◌, ◌<◌, ◌^◌, false, IfOk, IsTrue, OnErr, if◌then◌else◌};
 ghost use Rattle.std.specs.Str.{bytes_eq};
 ghost use Rattle.sqlite.specs.Effect.{Database};
 ghost use Rattle.sqlite.specs.State.{HasCleanDisk};
@@ -20,18 +20,18 @@ ghost use Rattle.fax_decide.specs.Fault.{OnlyNoAnswer};
 ghost use Rattle.fax_run.specs.Arrival.{said_of};
 ghost use Rattle.fax_once.specs.Queue.{AnswersAsk, AnswersNew, AnswersStep, From, Replies, Shows, settings, tables};
 ghost use Rattle.fax_once.specs.Stop.{Stops, StopsIn};
-ghost use Rattle.fax_run.specs.Verdict.{given_by, is_too_high, raised_ask};
 ghost use Rattle.fax_run.specs.declared.arrival.Arrival.{Arrival as ArrivalOf};
 
 use crate::acceptance::{Change, accept};
 use crate::arrival::{get, says};
+use crate::floor::{given_by, raised};
 use crate::refusing::refuse_ask;
 use crate::sender::Sender;
 use fax_ask::{Ask, Reply, Routes, View};
 use fax_core::Ask as Step;
 use fax_decide::{Decision, Fault, Office, decide, show};
 use fax_dest::{Controls, Setup};
-use fax_job::{Moment, Refusal, RequestNumber};
+use fax_job::{Moment, Refusal};
 use fax_run::Arrival;
 use fax_store::{Kept, Store};
 use sqlite::{Alter, Connection};
@@ -301,31 +301,4 @@ fn repeat(arrival: &Arrival<'_>, kept: Kept) -> Reply
     } else {
         Reply::refused(Refusal::NumberReused)
     }
-}
-
-/// Through which number the client gives up its replies, if it does.
-fn given_by(ask: &Step) -> Option<RequestNumber>
-    ensures { result ≡ given_by ask.now }
-{
-    match ask {
-        Step::GiveUp { upto } => Some(*upto),
-        _ => None,
-    }
-}
-
-/// What is asked for, where the client's floor is this one, which rises only. None where the floor would reach the number
-/// under which it is asked for.
-fn raised(ask: Step, number: RequestNumber, floor: u64) -> Option<Step>
-    requires { floor < 10 ^ 18 }
-    ensures { result ≡ (if is_too_high number ask then None else Some (raised_ask floor ask)) }
-{
-    let Step::GiveUp { upto } = ask else {
-        return Some(ask);
-    };
-    if upto.get() >= number.get() {
-        return None;
-    }
-    Some(Step::GiveUp {
-        upto: upto.at_least(floor),
-    })
 }
