@@ -17,11 +17,16 @@ FIRST_VERSION = (f"{INDEXES}; DROP TABLE floors; UPDATE meta SET version = 1; CR
                  "modem); CREATE TABLE calls (dial TEXT PRIMARY KEY NOT NULL, open INTEGER NOT NULL) STRICT")
 # Behind the first of these it gives its replies up.
 FLOORS = [CONVERSATION[0], ("floor", "desk", 5, "/numbers/floor", '{"upto":3}', 200, '{"floor":3}')]
-# So many requests fill the log but for what a start writes, so that the next start copies it into the database file. Each
-# fiftieth gives up the replies to the others, so that the file stays small.
-FILLING = [(None, "w9", number, "/numbers/floor", f'{{"upto":{number - 1}}}', 200, f'{{"floor":{number - 1}}}') if number % 50 == 0
-           else (None, "w9", number, f"/modems/ttyS1/{'down' if number % 2 else 'ready'}", "", 200,
-                 f'{{"down":{"true" if number % 2 else "false"}}}') for number in range(1, 1452)]
+
+
+def filling(first, last):
+    """Requests numbered so. Each fiftieth gives up the replies to the others, so that the file stays small."""
+    return [(None, "w9", number, "/numbers/floor", f'{{"upto":{number - 1}}}', 200, f'{{"floor":{number - 1}}}') if number % 50 == 0
+            else (None, "w9", number, f"/modems/ttyS1/{'down' if number % 2 else 'ready'}", "", 200,
+                  f'{{"down":{"true" if number % 2 else "false"}}}') for number in range(first, last + 1)]
+
+
+FILL = 1451  # so many requests fill the log but for what a start writes, so that the next start copies it into the file
 AGAIN = "outcome, first", "outcome, later", "new-file"  # with --all the start on what these leave is swept too
 FEW = "kept", "lost", "lost-db", "sectors"  # without --all a full log, which is large, is left in these
 
@@ -127,7 +132,7 @@ def swept(tools, sweeps):
     counts, (modes, syncs) = [], modes_of_run()
 
     def sweep_by(sweep):
-        is_short = sweep.name == "full-log" and not said.all and len(modes) > 1
+        is_short = sweep.name.startswith("full-log") and not said.all and len(modes) > 1
         sweep.run({name: modes[name] for name in FEW} if is_short else modes, syncs)
         counts.append((1, sweep.stops, sweep.left, len(sweep.tried)))
 
@@ -230,6 +235,18 @@ def as_it_was(folder):
 def full_log(folder):
     """A start that copies a full log into its file and was stopped leaves what the next one takes."""
     tools = Tools(folder)
-    full = undisturbed(tools, {}, FILLING)
+    full = undisturbed(tools, {}, filling(1, FILL))
     expect(len(undisturbed(tools, full, [])[NAME]) > len(full[NAME]), "a start on a full log doesn't copy it")
     swept(tools, [Sweep(tools, "full-log", full, [], None)])
+
+
+@check
+def full_log_request(folder):
+    """A request that copies a full log into its file counts once, wherever the server was stopped."""
+    tools = Tools(folder)
+    files = undisturbed(tools, {}, filling(1, FILL - 10))
+    asked = filling(FILL - 9, FILL + 10)
+    before = next((place for place in range(len(asked))
+                   if len(undisturbed(tools, files, asked[:place + 1])[NAME]) > len(files[NAME])), None)
+    expect(before, "no request copies the log, or the start does")
+    swept(tools, [Sweep(tools, "full-log, request", files, asked[:before], asked[before])])

@@ -1,12 +1,10 @@
-//! Tests of what no message to the program shows of the queue: its other calls, and stops in the midst of a message over
-//! disks in memory.
+//! Tests of calls of the store and of the queue that the program doesn't make, and of rows that it never has.
 //!
-//! What has a connection is generic over the engine's store, and a call with a contract stands in a function that has
-//! none. So each function takes seconds to prove. Over a store by name it takes half a minute or more.
+//! What has a connection is generic over the engine's store, and a call with many clauses stands in a function that has
+//! few others: what carries the clauses of several calls may take minutes to prove, and over a store by name half a minute
+//! or more.
 #![tactic(auto)]
 
-#[cfg(test)]
-mod disks;
 #[cfg(test)]
 mod example;
 #[cfg(test)]
@@ -16,8 +14,8 @@ mod rows;
 #[cfg(test)]
 mod runs;
 #[cfg(test)]
-mod stops;
+mod store;
 #[cfg(test)]
 mod view;
 #[cfg(test)]
-mod visit;
+mod waiting;
