@@ -1,4 +1,5 @@
-//! Tests of calls of the store and of the queue that the program doesn't make, and of rows that it never has.
+//! Tests of what no message to the program shows: calls of the store and of the queue that it doesn't make, rows that it
+//! never has, and texts that it never reads.
 //!
 //! What has a connection is generic over the engine's store, and a call with many clauses stands in a function that has
 //! few others: what carries the clauses of several calls may take minutes to prove, and over a store by name half a minute
@@ -6,7 +7,15 @@
 #![tactic(auto)]
 
 #[cfg(test)]
+mod answers;
+#[cfg(test)]
 mod example;
+#[cfg(test)]
+mod hours;
+#[cfg(test)]
+mod jobs;
+#[cfg(test)]
+mod lines;
 #[cfg(test)]
 mod queues;
 #[cfg(test)]
