@@ -1,8 +1,10 @@
 //! The queue's tables in a file.
-ghost use Rattle.std.specs.Prelude.{◌≡◌, IfOk};
+ghost use Rattle.std.specs.Prelude.{◌≡◌, false, IfOk};
 ghost use Rattle.sqlite.specs.Files.{file_state};
+ghost use Rattle.sqlite.specs.Held.{state};
 ghost use Rattle.sqlite.specs.State.{HasCleanDisk};
 ghost use Rattle.sqlite_wal.specs.Files.{image_at};
+ghost use Rattle.fax_store.specs.Adopt.{IsAdopted};
 ghost use Rattle.fax_files.specs.Database.{IsFound};
 ghost use Rattle.fax_files.specs.FaultLine.{open_line};
 ghost use Rattle.fax_ending.specs.Ending.{spoken};
@@ -11,9 +13,9 @@ use crate::connection::connect;
 use fax_ending::Ending;
 use fax_store::Store;
 use fax_text::Status;
-use sqlite::{Error, ErrorCode, FileFrom, FileStore, Start};
+use sqlite::{Alter, Connection, Error, ErrorCode, FileFrom, FileStore, Start};
 use sqlite_std_file::OpenError;
-use std::alloc::AllocError;
+use std::alloc::{AllocError, Global};
 use std::fs;
 use std::io::{self, ErrorKind};
 
@@ -69,7 +71,15 @@ pub fn open_store<S: Start>(
         → IsFound (image_at S.Start) (file_state store.conn)) }
 {
     let conn = connect(rt, name, start)?;
-    match Store::adopt(rt.alloc(), conn) {
+    adopted(rt.alloc(), conn)
+}
+
+/// The tables in this database, as [`Store::adopt`] takes them.
+fn adopted<S: Alter + Drop>(alloc: Global, conn: Connection<S>) -> Result<Store<S>, OpenFault>
+    requires { (state S.Store conn).in_transaction ≡ false }
+    ensures { IfOk result (λ store. IsAdopted (state S.Store conn) (state S.Store store.conn)) }
+{
+    match Store::adopt(alloc, conn) {
         Ok(store) => Ok(store),
         Err(_) => Err(OpenFault::Database),
     }
