@@ -44,12 +44,12 @@ plain_is_local groups external globals others e =
     not_true globals (and_parts (not globals) others (and_parts external (not globals && others) (and_parts groups (external && (not globals && others)) e).1).1).0
 
 -- a command that was made is added
-pub adds_made : {E : Type 0} (program whole : Command) (made : Result Command E) (is sub : App)
-    → MatchResult made (λ command. (fields_of command).has_globals ≡ false → app_of whole ≡ with_subcommand (app_of program) (app_of command).top) (λ fault. ⊥)
+pub adds_made : {E : Type 0} (before whole : Command) (made : Result Command E) (is sub : App)
+    → MatchResult made (λ command. (fields_of command).has_globals ≡ false → app_of whole ≡ with_subcommand (app_of before) (app_of command).top) (λ fault. ⊥)
     → IfOk made (λ command. app_of command ≡ sub) → IfOk made (λ command. (fields_of command).has_globals ≡ false)
-    → app_of program ≡ is → app_of whole ≡ with_subcommand is sub.top
-adds_made program whole (Ok command) is sub adds shape local e = adds local ∙ ap₂ with_subcommand e (ap (λ (a : App). a.top) shape)
-adds_made program whole (Err fault) is sub adds shape local e = absurd adds
+    → app_of before ≡ is → app_of whole ≡ with_subcommand is sub.top
+adds_made before whole (Ok command) is sub adds shape local e = adds local ∙ ap₂ with_subcommand e (ap (λ (a : App). a.top) shape)
+adds_made before whole (Err fault) is sub adds shape local e = absurd adds
 
 -- a fault of words has one of the kinds that they have, unless memory ran out
 pub reads_fault : (words : List Text) (kind : ErrorKind) (fault : WordsFault)
