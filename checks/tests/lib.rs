@@ -2,7 +2,7 @@
 //! it never has.
 //!
 //! This is Rattle, whose sources `rt ci` knows by another ending and would prove. To prove what is linked over the engine
-//! takes it a quarter of an hour, and shows nothing more, so `checks/run tests` only compiles and runs them.
+//! takes it a quarter of an hour of a processor, so `checks/try-tests` only compiles and runs them.
 #![tactic(auto)]
 
 #[cfg(test)]
