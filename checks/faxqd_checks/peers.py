@@ -250,6 +250,59 @@ def idle(folder):
         server.process.wait(PATIENCE)
 
 
+def stubborn(port, stack, count):
+    """So many peers that ask for 60 kB two hundred times and read nothing."""
+    for _ in range(count):
+        with contextlib.suppress(OSError):  # one that was sent away meanwhile
+            stack.enter_context(connect(port, 4096)).sendall(200 * b"GET /jobs/1 HTTP/1.1\r\n\r\n")
+
+
+@check
+def unread(folder):
+    """While 64 or 200 peers read nothing of their replies and have more requests unread in their sockets, a request is
+    answered within a second, and the server doesn't spin."""
+    for count in 64, 200:
+        (folder / f"{count}").mkdir()
+        with attempt(f"{count} peers that read nothing"), serving(folder / f"{count}") as server, \
+                contextlib.ExitStack() as stack:
+            order = f"number:5550111\ntotpages:20\nnote:{60000 * 'x'}\n"
+            expect(answer_to(server.port, post("/jobs", 1, order, fields=CLOSE))[0] == 201, "a fax isn't accepted")
+            stubborn(server.port, stack, count)
+            time.sleep(1)  # until what the system buffers for these is full, and they have been silent for long enough
+            used = server.processor()
+            took = times(server.port, 20)
+            time.sleep(1)
+            used = server.processor() - used
+            say(f"beside {count} peers that read nothing a request takes {took[-1]:.3f} s at most, and {used:.2f} s of a processor "
+                "are used in a second")
+            expect(took[-1] < 1, f"a request takes {took[-1]:.2f} s")
+            expect(used < 0.2, f"the server uses {used:.2f} s of a processor")
+
+
+@check
+def last(folder):
+    """After the last connection has come, the server ends within a second or two although others stay open and idle, and
+    after `--timeout` although one goes on asking; what was asked before is answered."""
+    ask = get("/jobs/999999")
+    for how, limit, pause in (("idle", 3, 0), ("asking", 4.5, 0.1)):
+        with attempt(f"one stays, {how}"), Server(folder / f"{how}.db", "--connections", "2", "--timeout", "3") as server, \
+                Peer(server.port) as peer:
+            peer.say(ask)
+            expect(peer.reply() == NO_JOB, f"the first gets {peer.got!r}")
+            expect(answer_to(server.port, ASK)[0] == 404, "the last isn't answered")
+            start, asked = time.monotonic(), 0
+            with contextlib.suppress(OSError):
+                while pause and time.monotonic() < start + 2 * limit:
+                    peer.asks(ask, NO_JOB, "who goes on asking")
+                    asked += 1
+                    time.sleep(pause)
+            expect(asked >= 15 or not pause, f"who goes on asking is answered {asked} times")
+            server.ends("after its last connection", limit)
+            took = time.monotonic() - start
+            say(f"with one that stays, {how}, it ends after {took:.1f} s")
+            expect(took < limit, f"it ends after {took:.1f} s")
+
+
 REFUSED = 0.05  # seconds behind an accept that fails
 
 

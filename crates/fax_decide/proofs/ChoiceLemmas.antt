@@ -1,5 +1,6 @@
 -- Which job is the best: the first that may go among the waiting jobs in the order of the choice.
 use Rattle.std.proofs.Common.{◌≡◌, inl, inr, ℕ, suc, ◌+◌, ◌≤◌, Bool, true, false, not, cond, ◌&&◌, eqb, leb, All, List, [], ◌∷◌, ◌++◌, length, get_or, refl, sym, ap, ap₂, subst, ◌∙◌, arith, append_assoc, Option, Some, None, find, filter, nat_lt, bytes_eq, option_map, IsSortedBy, eqb-true, length-append, true≢false, MatchOption}
+use Rattle.std.specs.List.{list_any}
 use Rattle.std.specs.Option.{option_or}
 use Rattle.std.proofs.lemmas.Bool.{and_parts, and_right, cases_Bool, cond_both, cond-false, not-false, not-true}
 use Rattle.std.proofs.lemmas.Bool.Decides.{nat_tests}
@@ -10,7 +11,7 @@ use Rattle.std.proofs.lemmas.List.Sorted.{IsPermutation-sym, length_permutation}
 use Rattle.std.proofs.lemmas.Slice.Eq.{bytes_eq-Decides}
 use Rattle.sqlite.specs.Order.{Row}
 use Rattle.sqlite_rules.specs.Lists.{Has}
-use Rattle.sqlite_rules.proofs.ListLemmas.{all_has, has_filtered, has_found, has_kept, has_right}
+use Rattle.sqlite_rules.proofs.ListLemmas.{all_has, has_either, has_filtered, has_found, has_kept, has_last, has_right}
 use Rattle.sqlite_rules.proofs.ProbeLemmas.{mapped_has}
 use Rattle.fax_value.specs.Status.{kill_time_expired}
 use Rattle.fax_job.specs.declared.job.Phase.{Phase}
@@ -32,7 +33,7 @@ use Rattle.fax_store.specs.Candidates.{AreAsked, Gives, IsProspect, StandsAt, is
 use Rattle.fax_store.specs.declared.candidates.Asked.{Asked}
 use Rattle.fax_store.specs.declared.candidates.Front.{Front}
 use Rattle.fax_store.specs.Job.{AreWaiting}
-use Rattle.fax_decide.specs.Choice.{IsBusy, IsFirst, IsFirstAsked}
+use Rattle.fax_decide.specs.Choice.{AreBusy, IsBusy, IsFirst, IsFirstAsked, with_number}
 use Rattle.fax_decide.specs.State.{may_call}
 use Rattle.fax_decide.proofs.CallLemmas.{state_aged}
 use Rattle.fax_decide.proofs.RecordLemmas.{in_had}
@@ -321,6 +322,38 @@ busy_stays s m t modem None j busy due to = absurd (true≢false to)
 busy_stays s m t modem (Some dial) j busy due to =
     let same : j.dial ≡ dial = (bytes_eq-Decides j.dial dial).0 (not-false (bytes_eq j.dial dial) to) in
     goes_due s m t modem j due ∙ ap (λ b. b && s.admits j.modem modem) (ap (λ (d : List ℕ). may_call s d (calls_to d m) t) same ∙ busy)
+
+-- of no numbers all are busy
+pub none_busy : (s : Settings) (m : Queue) (t : ℕ) → AreBusy s m t []
+none_busy s m t dial has = absurd has
+
+-- of a number among busy ones no call may begin
+pub known_busy : (s : Settings) (m : Queue) (t : ℕ) (numbers : List (List ℕ)) (dial : List ℕ) → AreBusy s m t numbers → list_any (bytes_eq dial) numbers ≡ true
+    → may_call s dial (calls_to dial m) t ≡ false
+known_busy s m t [] dial busy is = absurd (true≢false (sym is))
+known_busy s m t (x ∷ xs) dial busy is = elim (cases_Bool (bytes_eq dial x)) [
+  | inl same ↦ busy dial (inl ((bytes_eq-Decides dial x).0 same))
+  | inr other ↦ known_busy s m t xs dial (λ d has. busy d (inr has)) (rw other at is)
+]
+
+-- with one more that is busy all are
+pub with_busy : (s : Settings) (m : Queue) (t : ℕ) (numbers : List (List ℕ)) (dial : List ℕ) → AreBusy s m t numbers → may_call s dial (calls_to dial m) t ≡ false
+    → AreBusy s m t (with_number numbers dial)
+with_busy s m t numbers dial all one =
+    cond_both (nat_lt (length numbers) 16) (numbers ++ dial ∷ []) numbers (AreBusy s m t)
+    (λ few d has. elim (has_either numbers (dial ∷ []) d has) [
+      | inl had ↦ all d had
+      | inr last ↦ elim last [
+        | inl same ↦ subst (λ (x : List ℕ). may_call s x (calls_to x m) t ≡ false) (sym same) one
+        | inr none ↦ absurd none
+      ]
+    ])
+    (λ many. all)
+
+-- the last of busy ones is busy
+pub last_busy : (s : Settings) (m : Queue) (t : ℕ) (numbers front : List (List ℕ)) (dial : List ℕ) → numbers ≡ front ++ dial ∷ [] → AreBusy s m t numbers
+    → may_call s dial (calls_to dial m) t ≡ false
+last_busy s m t numbers front dial is all = all dial (has_last numbers front dial is)
 
 -- so the first of those that are asked for is the first of all
 pub first_known : (s : Settings) (m : Queue) (t : ℕ) (modem : List ℕ) (asked : Asked) (found : Option ℕ) → asked.t ≡ t → IsBusy s m t asked.but

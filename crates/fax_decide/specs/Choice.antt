@@ -1,6 +1,7 @@
 -- Which of the jobs that wait goes.
-use Rattle.std.specs.Prelude.{◌≡◌, ◌<◌, ◌≤◌, ℕ, ◌==◌, Bool, false, ◌&&◌, List, Option, IfSome, find}
+use Rattle.std.specs.Prelude.{◌≡◌, ◌<◌, ◌≤◌, ℕ, ◌==◌, Bool, false, ◌&&◌, List, [], ◌∷◌, ◌++◌, length, nat_lt, Option, IfSome, find, if◌then◌else◌}
 use Rattle.std.specs.Str.{bytes_eq}
+use Rattle.sqlite_rules.specs.Lists.{Has}
 use Rattle.fax_value.specs.Limits.{last_grant}
 use Rattle.fax_job.specs.declared.job.JobFields.{JobFields}
 use Rattle.std.specs.Option.{option_map}
@@ -19,6 +20,14 @@ use Rattle.fax_decide.specs.State.{may_call}
 -- no call to this number may begin, where there is one
 abbrev pub IsBusy : Settings → Queue → ℕ → Option (List ℕ) → Type 0
 IsBusy s m t busy = IfSome busy (λ dial. may_call s dial (calls_to dial m) t ≡ false)
+
+-- no call to any of these numbers may begin
+abbrev pub AreBusy : Settings → Queue → ℕ → List (List ℕ) → Type 0
+AreBusy s m t numbers = (dial : List ℕ) → Has numbers dial → may_call s dial (calls_to dial m) t ≡ false
+
+-- a number is remembered too, unless as many are
+abbrev pub with_number : List (List ℕ) → List ℕ → List (List ℕ)
+with_number numbers dial = if nat_lt (length numbers) 16 then numbers ++ dial ∷ [] else numbers
 
 -- the number of the first that may go, of the jobs that wait, in the order of the choice
 abbrev pub IsFirst : Settings → Queue → ℕ → List ℕ → Option ℕ → Type 0

@@ -1,7 +1,9 @@
 //! Which job a modem is given: a modem asks for work.
 
-ghost use Rattle.std.specs.Prelude.{◌≡◌, ◌&&◌, ℕ, [], false, true, IsErr, IsTrue, Ok, None, Some, is_some};
+ghost use Rattle.std.specs.Prelude.{◌≡◌, ◌&&◌, ℕ, [], false, true, IsErr, IsTrue, OnOk, Ok, None, Some, is_some};
+ghost use Rattle.std.specs.List.{list_any};
 ghost use Rattle.std.specs.Option.{option_map};
+ghost use Rattle.std.specs.Str.{bytes_eq};
 ghost use Rattle.std.specs.Vec.Iter.{into_iter_items};
 ghost use Rattle.fax_ask.specs.Answer.{grant_told};
 ghost use Rattle.fax_ask.specs.Response.{refused_response};
@@ -22,7 +24,7 @@ ghost use Rattle.fax_job.specs.declared.refusal.Refusal.TheVariants.{ModemBusy};
 ghost use Rattle.fax_tables.specs.Grant.{as_hold};
 ghost use Rattle.fax_store.specs.Candidates.{StandsAt};
 ghost use Rattle.fax_dest.specs.Setup.{admits};
-ghost use Rattle.fax_decide.specs.Choice.{IsBusy, IsFirst, IsFirstAsked, IsGrantOf, is_held_by};
+ghost use Rattle.fax_decide.specs.Choice.{AreBusy, IsBusy, IsFirst, IsFirstAsked, IsGrantOf, is_held_by, with_number};
 ghost use Rattle.fax_decide.specs.Decision.{Decides};
 ghost use Rattle.fax_decide.specs.Fault.{OrNoAnswer};
 ghost use Rattle.fax_decide.specs.Looking.{Consults};
@@ -41,7 +43,10 @@ use fax_job::{Dial, Job, Moment, Name, Refusal};
 use fax_store::{Candidates, Hold, Store};
 use fax_tables::Prospect;
 use sqlite::Alter;
-use std::alloc::Global;
+use std::alloc::{AllocError, Global};
+
+/// How many numbers to which no call may begin one look for work remembers.
+const MOST_KNOWN: usize = 16;
 
 /// Decides at `t` what a modem gets that asks for work. `next_grant` is the number of its grant.
 pub(crate) fn decide_next<S: Alter>(
@@ -166,28 +171,28 @@ fn first<S: Alter>(
     ensures { Consults S.Store store.old store.new result (λ m. Sound m
         → OrNoAnswer result (IsFirst (settings_of office.now.setup office.now.controls) m t modem.now)) }
 {
-    let mut busy = None;
+    let mut busy = Vec::new(alloc);
     let found = first_or_busy(store, office, alloc, &mut busy, modem, t)?;
-    match busy {
+    match busy.pop() {
         None => Ok(found),
         Some(dial) => first_but(store, office, alloc, dial, modem, t),
     }
 }
 
-/// The number of the first of the waiting jobs that may go to the modem at `t`; or `busy` becomes the first number that
+/// The number of the first of the waiting jobs that may go to the modem at `t`; or `busy` gets the first number that
 /// is found to which no call may begin.
 fn first_or_busy<S: Alter>(
     store: &mut Store<S>,
     office: &Office,
     alloc: Global,
-    busy: &mut Option<Dial>,
+    busy: &mut Vec<Dial>,
     modem: &Name,
     t: Moment,
 ) -> Result<Option<u32>, Fault>
     ensures { Consults S.Store store.old store.new result (λ m. Sound m
-        → IsBusy (settings_of office.now.setup office.now.controls) m t busy.old
-        → OrNoAnswer result (λ found. IsBusy (settings_of office.now.setup office.now.controls) m t busy.new
-        × (busy.new ≡ None → IsFirst (settings_of office.now.setup office.now.controls) m t modem.now found))) }
+        → AreBusy (settings_of office.now.setup office.now.controls) m t busy.old.items
+        → OrNoAnswer result (λ found. AreBusy (settings_of office.now.setup office.now.controls) m t busy.new.items
+        × (busy.new.items ≡ [] → IsFirst (settings_of office.now.setup office.now.controls) m t modem.now found))) }
 {
     let mut candidates = store.candidates(t);
     first_of(&mut candidates, office, alloc, busy, true, modem, t)
@@ -206,18 +211,18 @@ fn first_but<S: Alter>(
         → IsBusy (settings_of office.now.setup office.now.controls) m t (Some busy)
         → OrNoAnswer result (IsFirst (settings_of office.now.setup office.now.controls) m t modem.now)) }
 {
-    let mut other = None;
+    let mut others = Vec::new(alloc);
     let mut candidates = store.candidates_but(t, busy);
-    first_of(&mut candidates, office, alloc, &mut other, false, modem, t)
+    first_of(&mut candidates, office, alloc, &mut others, false, modem, t)
 }
 
 /// The number of the first of the candidates that may go to the modem at `t`, the moment that they were asked for.
-/// `busy` is a number to which none may, if one is known. Where it is said, the look ends as soon as one is.
+/// `busy` has numbers to which none may. If `ends_at_busy`, the look ends as soon as there is one.
 fn first_of<S: Alter>(
     candidates: &mut Candidates<'_, S>,
     office: &Office,
     alloc: Global,
-    busy: &mut Option<Dial>,
+    busy: &mut Vec<Dial>,
     ends_at_busy: bool,
     modem: &Name,
     t: Moment,
@@ -226,9 +231,9 @@ fn first_of<S: Alter>(
     ensures consults { Consults S.Store candidates.old.store.now candidates.new.store.now result (λ m. Sound m
         → candidates.old.asked.t ≡ t
         → StandsAt candidates.old.asked m [] (into_iter_items candidates.old.page) candidates.old.front candidates.old.most
-        → IsBusy (settings_of office.now.setup office.now.controls) m t busy.old
-        → OrNoAnswer result (λ found. IsBusy (settings_of office.now.setup office.now.controls) m t busy.new
-        × ((IsTrue ends_at_busy → busy.new ≡ None)
+        → AreBusy (settings_of office.now.setup office.now.controls) m t busy.old.items
+        → OrNoAnswer result (λ found. AreBusy (settings_of office.now.setup office.now.controls) m t busy.new.items
+        × ((IsTrue ends_at_busy → busy.new.items ≡ [])
         → IsFirstAsked (settings_of office.now.setup office.now.controls) candidates.old.asked m modem.now found))) }
 {
     // Each job has a number of its own, so no sound queue has more.
@@ -240,7 +245,7 @@ fn first_of<S: Alter>(
         if goes(candidates, office, alloc, prospect, busy, modem, t)? {
             return Ok(Some(job));
         }
-        if ends_at_busy && busy.is_some() {
+        if ends_at_busy && !busy.as_slice().is_empty() {
             return Ok(None);
         }
     }
@@ -248,14 +253,14 @@ fn first_of<S: Alter>(
 }
 
 /// Whether a job that is due may go to the modem at `t`: a call to its number may begin, and its modem value admits the
-/// modem. `busy` is a number to which none may, if one is known. So jobs to one busy number that follow one another cost
-/// one look at it.
+/// modem. A number in `busy` isn't looked up, and one to which no call may begin is added. So many jobs to a few busy
+/// numbers cost a few look-ups.
 fn goes<S: Alter>(
     candidates: &mut Candidates<'_, S>,
     office: &Office,
     alloc: Global,
     prospect: Prospect,
-    busy: &mut Option<Dial>,
+    busy: &mut Vec<Dial>,
     modem: &Name,
     t: Moment,
 ) -> Result<bool, Fault>
@@ -263,10 +268,10 @@ fn goes<S: Alter>(
     ensures same { (candidates.new.asked ≡ candidates.old.asked) × (candidates.new.page ≡ candidates.old.page)
         × (candidates.new.front ≡ candidates.old.front) × (candidates.new.most ≡ candidates.old.most) }
     ensures consults { Consults S.Store candidates.old.store.now candidates.new.store.now result (λ m.
-        IsBusy (settings_of office.now.setup office.now.controls) m t busy.old
+        AreBusy (settings_of office.now.setup office.now.controls) m t busy.old.items
         → OrNoAnswer result (λ goes. (goes ≡ (may_call (settings_of office.now.setup office.now.controls) prospect.dial
         (calls_to prospect.dial m) t && admits office.now.setup prospect.modem modem.now))
-        × IsBusy (settings_of office.now.setup office.now.controls) m t busy.new)) }
+        × AreBusy (settings_of office.now.setup office.now.controls) m t busy.new.items)) }
 {
     let Prospect {
         job: _,
@@ -275,25 +280,53 @@ fn goes<S: Alter>(
         priority: _,
         tts: _,
     } = prospect;
-    if is_to(busy, &dial) {
+    if is_known(busy, &dial) {
         return Ok(false);
     }
-    let calls = candidates.active_to(&dial)?;
-    if !office.may_call(alloc, &dial, calls, t)? {
-        *busy = Some(dial);
+    if !may_call(candidates, office, alloc, &dial, t)? {
+        remember(busy, dial)?;
         return Ok(false);
     }
     Ok(office.setup.admits(alloc, value.as_str(), modem.as_str())?)
 }
 
-/// Whether there is a number, and it is this one.
-fn is_to(number: &Option<Dial>, dial: &Dial) -> bool
-    ensures { IsTrue result → number.now ≡ Some dial.now }
+/// Whether a call to that number may begin at `t`. The store is asked for its calls only if its hours have `t`.
+fn may_call<S: Alter>(
+    candidates: &mut Candidates<'_, S>,
+    office: &Office,
+    alloc: Global,
+    dial: &Dial,
+    t: Moment,
+) -> Result<bool, Fault>
+    ensures same_reference { candidates.new.store.ghost_name ≡ candidates.old.store.ghost_name }
+    ensures same { (candidates.new.asked ≡ candidates.old.asked) × (candidates.new.page ≡ candidates.old.page)
+        × (candidates.new.front ≡ candidates.old.front) × (candidates.new.most ≡ candidates.old.most) }
+    ensures consults { Consults S.Store candidates.old.store.now candidates.new.store.now result (λ m.
+        OrNoAnswer result (λ may. may ≡ may_call (settings_of office.now.setup office.now.controls) dial.now
+        (calls_to dial.now m) t)) }
 {
-    match number {
-        Some(number) => number.text() == dial.text(),
-        None => false,
+    if !office.has_hours(alloc, dial, t)? {
+        return Ok(false);
     }
+    let calls = candidates.active_to(dial)?;
+    office.may_call(alloc, dial, calls, t)
+}
+
+/// Whether this number is one of those.
+fn is_known(numbers: &[Dial], dial: &Dial) -> bool
+    ensures { result ≡ list_any (bytes_eq dial.now) numbers.now }
+{
+    numbers.iter().any(|number| dial.text() == number.text())
+}
+
+/// Adds a number, unless there are 16.
+fn remember(numbers: &mut Vec<Dial>, dial: Dial) -> Result<(), AllocError>
+    ensures { OnOk result (numbers.new.items ≡ with_number numbers.old.items dial) }
+{
+    if numbers.len() < MOST_KNOWN {
+        numbers.push(dial)?;
+    }
+    Ok(())
 }
 
 /// The job goes to the modem with the pages that it has left. Where it doesn't fit to be granted, as in no sound

@@ -33,6 +33,15 @@ impl Office {
         Ok(state_at(job, is_in_hours, calls, u64::from(rule.calls), t))
     }
 
+    /// Whether the hours of that number's rule have `t`.
+    pub(crate) fn has_hours(&self, alloc: Global, dial: &Dial, t: Moment) -> Result<bool, Fault>
+        ensures { OrNoAnswer result (λ has.
+            has ≡ ((settings_of self.now.setup self.now.controls).rule dial.now).hours t) }
+    {
+        let rule = self.rule_of(alloc, dial)?;
+        Ok(self.is_in_hours(rule, t)?)
+    }
+
     /// Whether a call to that number may begin at `t`, where that many are open to it.
     pub(crate) fn may_call(
         &self,

@@ -1,5 +1,6 @@
 pub mod Fault
 pub mod Line
+pub mod Unused
 pub mod Value
 pub mod Pattern
 pub mod Setting

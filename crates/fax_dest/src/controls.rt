@@ -31,7 +31,7 @@ impl Drop for Controls {
 
 /// A rule, and the pattern of the numbers for which it holds.
 #[derive(Drop)]
-pub(crate) struct Entry {
+pub struct Entry {
     pattern: Regex,
     rule: Rule,
     ghost plain: { ∥ IsPlain pattern ∥₁ },
@@ -90,6 +90,13 @@ impl Controls {
         })
     }
 
+    /// The rules, in the order of the controls.
+    pub fn rules(&self) -> &[Entry]
+        ensures { result.now ≡ self.now.rules.items }
+    {
+        self.rules.as_slice()
+    }
+
     /// The place of the first rule whose pattern is found anywhere in the canonical number, else the
     /// number of rules.
     #[tactic(auto, unfolding(crate::specs::Controls::place_of))]
@@ -113,10 +120,24 @@ impl Controls {
 impl Entry {
     ghost use Rattle.std.specs.Prelude.{◌≡◌, IfOk};
     ghost use Rattle.std.specs.List.{position_or_len};
+    ghost use Rattle.regex.specs.Strings.{regex_source};
     ghost use Rattle.fax_dest.specs.Controls.{line_of, begun, behind_of, matches, added};
     ghost use Rattle.fax_dest.specs.Line.{at_blank};
     ghost use Rattle.fax_dest.specs.ControlsStep.{rules_of, has_rule, IsTaken, IsBegun, IsRuleOf};
     ghost use Rattle.fax_dest.specs.Fault.{GivesLine};
+
+    /// The text of the pattern.
+    pub fn pattern(&self) -> &str
+        ensures { result.now ≡ regex_source self.now.pattern }
+    {
+        self.pattern.as_str()
+    }
+
+    pub fn rule(&self) -> &Rule
+        ensures { result.now ≡ self.now.rule }
+    {
+        &self.rule
+    }
 
     /// Takes what a line says to the rules above it.
     #[tactic(auto, unfolding(crate::specs::Controls::line_of))]

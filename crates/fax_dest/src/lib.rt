@@ -13,8 +13,10 @@ mod parameter;
 mod pattern;
 mod setting;
 mod setup;
+mod unused;
 
-pub use controls::Controls;
+pub use controls::{Controls, Entry};
 pub use fault::{FileFault, FileKind};
 pub use fax_rule::{Notice, Rule};
-pub use setup::Setup;
+pub use setup::{Class, Setup};
+pub use unused::{is_unused_control, is_unused_setting, zone_in};

@@ -34,7 +34,7 @@ impl ParameterName {
 
     /// What a name says, letter case aside.
     #[tactic(auto, unfolding(crate::specs::Parameter::parameter_name))]
-    fn of(name: &str) -> ParameterName
+    pub(crate) fn of(name: &str) -> ParameterName
         ensures { result ≡ parameter_name name.now }
     {
         if name.eq_ignore_ascii_case("maxconcurrentcalls")

@@ -52,7 +52,7 @@ impl Drop for Setup {
 
 /// A name for the modems in whose names a pattern is found.
 #[derive(Drop)]
-pub(crate) struct Class {
+pub struct Class {
     name: Name,
     pattern: Regex,
     ghost plain: { ∥ IsPlain pattern ∥₁ },
@@ -61,6 +61,7 @@ pub(crate) struct Class {
 impl Class {
     ghost use Rattle.std.specs.Prelude.{◌≡◌, IfOk};
     ghost use Rattle.std.specs.List.{list_any};
+    ghost use Rattle.regex.specs.Strings.{regex_source};
     ghost use Rattle.fax_dest.specs.Fault.{GivesLine};
     ghost use Rattle.fax_dest.specs.Line.{at_byte};
     ghost use Rattle.fax_dest.specs.Setting.{class_written, ClassOf};
@@ -76,6 +77,19 @@ impl Class {
         let name = name_of(alloc, name)?;
         let pattern = pattern(alloc, text)?;
         Ok(Class { name, pattern })
+    }
+
+    pub fn name(&self) -> &str
+        ensures { result.now ≡ self.now.name }
+    {
+        self.name.as_str()
+    }
+
+    /// The text of the pattern.
+    pub fn pattern(&self) -> &str
+        ensures { result.now ≡ regex_source self.now.pattern }
+    {
+        self.pattern.as_str()
     }
 
     /// Whether a class among some has the name, and its pattern is found in the modem's name.
@@ -207,6 +221,20 @@ impl Setup {
             Call::NoCarrier => self.no_carrier = seconds,
             Call::Other => self.other = seconds,
         }
+    }
+
+    /// The names of the modems, in the order of the setup.
+    pub fn modems(&self) -> &[Name]
+        ensures { result.now ≡ self.now.modems.items }
+    {
+        self.modems.as_slice()
+    }
+
+    /// The classes of modems, in the order of the setup.
+    pub fn classes(&self) -> &[Class]
+        ensures { result.now ≡ self.now.classes.items }
+    {
+        self.classes.as_slice()
     }
 
     /// Whether the modem is one of the setup's.

@@ -26,6 +26,17 @@ impl<'a> Ending<'a> {
         }
     }
 
+    /// All is done and nothing is said, but something that was read isn't used.
+    pub fn unused() -> Ending<'a>
+        ensures status { result.status ≡ Status.Unused }
+        ensures says { spoken result ≡ [] }
+    {
+        Ending {
+            status: Status::Unused,
+            line: None,
+        }
+    }
+
     /// Something went wrong, and this line says what.
     pub fn fault(line: FaultLine<'a>) -> Ending<'a>
         ensures status { result.status ≡ Status.Fault }

@@ -1,7 +1,7 @@
 //! The setup and the destination controls that a command runs with.
 ghost use Rattle.std.specs.Prelude.{◌≡◌};
 ghost use Rattle.fax_files.specs.FaultLine.{file_line, office_line};
-ghost use Rattle.fax_files.specs.Office.{ComesOf, ControlsOf, IsOfficeOf, IsReadOf, SetupOf};
+ghost use Rattle.fax_files.specs.Office.{ComesOf, ControlsOf, GivesControls, GivesSetup, IsOfficeOf, IsReadOf, SetupOf};
 ghost use Rattle.fax_ending.specs.Ending.{spoken};
 ghost use Rattle.fax_ending.specs.FaultLine.{spelled};
 
@@ -9,7 +9,7 @@ use fax_decide::Office;
 use fax_dest::{Controls, FileFault, FileKind, Setup};
 use fax_ending::{Ending, FaultLine, Place};
 use fax_text::{OfficeFiles, Status};
-use std::alloc::Global;
+use std::alloc::{AllocError, Global};
 use std::fs;
 use std::io::ErrorKind;
 
@@ -38,8 +38,22 @@ pub fn read_office<'a>(rt: &HostRuntime, files: OfficeFiles<'a>) -> Result<Offic
     office_of(rt.alloc(), setup, controls)
 }
 
-/// The bytes of a file, none where no file is named.
-fn read_file<'a>(rt: &HostRuntime, name: Option<&'a str>) -> Result<Vec<u8>, OfficeFault<'a>>
+impl From<AllocError> for OfficeFault<'_> {
+    ghost use Rattle.std.specs.Prelude.{◌≡◌};
+    ghost use Rattle.fax_files.specs.declared.office.OfficeFault.TheVariants.{NoMemory};
+
+    ghost from_gives = { λ _ fault. fault ≡ NoMemory };
+
+    fn from(_error: AllocError) -> Self {
+        OfficeFault::NoMemory
+    }
+}
+
+/// The bytes of a file, none if no file is named. That they are the file's is trusted; `checks/run commands` tries it.
+pub(crate) fn read_file<'a>(
+    rt: &HostRuntime,
+    name: Option<&'a str>,
+) -> Result<Vec<u8>, OfficeFault<'a>>
     ensures { IsReadOf name.entry result }
 {
     let Some(name) = name else {
@@ -60,8 +74,8 @@ fn office_of<'a>(
 ) -> Result<Office, OfficeFault<'a>>
     ensures { IsOfficeOf setup.entry controls.entry result }
 {
-    let setup = setup_in(alloc, setup)?;
-    match controls_in(alloc, controls) {
+    let setup = setup_in(alloc, &setup)?;
+    match controls_in(alloc, &controls) {
         Ok(controls) => Ok(Office { setup, controls }),
         Err(fault) => Err(fault),
     }
@@ -70,11 +84,21 @@ fn office_of<'a>(
 /// The setup of a file that was read.
 fn setup_in<'a>(
     alloc: Global,
-    file: Result<Vec<u8>, OfficeFault<'a>>,
+    file: &Result<Vec<u8>, OfficeFault<'a>>,
 ) -> Result<Setup, OfficeFault<'a>>
-    ensures { SetupOf file.entry result }
+    ensures { SetupOf file.now result }
 {
-    match Setup::read(alloc, file?.as_slice()) {
+    match file {
+        Ok(bytes) => setup_of(alloc, bytes.as_slice()),
+        Err(fault) => Err(*fault),
+    }
+}
+
+/// The setup that a text says.
+pub(crate) fn setup_of<'a>(alloc: Global, text: &[u8]) -> Result<Setup, OfficeFault<'a>>
+    ensures { GivesSetup text.now result }
+{
+    match Setup::read(alloc, text) {
         Ok(setup) => Ok(setup),
         Err(fault) if fault.kind == FileKind::NoMemory => Err(OfficeFault::NoMemory),
         Err(fault) => Err(OfficeFault::Setup(fault)),
@@ -84,11 +108,21 @@ fn setup_in<'a>(
 /// The controls of a file that was read.
 fn controls_in<'a>(
     alloc: Global,
-    file: Result<Vec<u8>, OfficeFault<'a>>,
+    file: &Result<Vec<u8>, OfficeFault<'a>>,
 ) -> Result<Controls, OfficeFault<'a>>
-    ensures { ControlsOf file.entry result }
+    ensures { ControlsOf file.now result }
 {
-    match Controls::read(alloc, file?.as_slice()) {
+    match file {
+        Ok(bytes) => controls_of(alloc, bytes.as_slice()),
+        Err(fault) => Err(*fault),
+    }
+}
+
+/// The controls that a text says.
+pub(crate) fn controls_of<'a>(alloc: Global, text: &[u8]) -> Result<Controls, OfficeFault<'a>>
+    ensures { GivesControls text.now result }
+{
+    match Controls::read(alloc, text) {
         Ok(controls) => Ok(controls),
         Err(fault) if fault.kind == FileKind::NoMemory => Err(OfficeFault::NoMemory),
         Err(fault) => Err(OfficeFault::Controls(fault)),

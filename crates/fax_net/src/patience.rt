@@ -48,6 +48,13 @@ impl Patience {
         )
     }
 
+    /// How long a peer that has moved nothing for so long may go on so.
+    pub(crate) fn silence_left(&self, silence: Duration) -> Duration
+        ensures { as_nanos result ≡ as_nanos self.now.silent - as_nanos silence }
+    {
+        self.silent.saturating_sub(silence)
+    }
+
     /// Whether a connection that has gone on for so long has had all its time.
     pub(crate) fn is_over(&self, taken: Duration) -> bool
         ensures { IsTrue result ↔ (as_nanos self.now.whole - as_nanos taken ≡ 0) }

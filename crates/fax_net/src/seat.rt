@@ -1,6 +1,6 @@
 //! One connection's socket, which never waits, and how long its peer may go on.
 ghost use Rattle.std.specs.Duration.{as_nanos};
-ghost use Rattle.std.specs.Prelude.{◌≡◌, ◌≤◌, ◌↔◌, ◌⊎◌, ◌++◌, ◌-◌, length, IsTrue};
+ghost use Rattle.std.specs.Prelude.{◌≡◌, ◌≤◌, ◌↔◌, ◌⊎◌, ◌++◌, ◌-◌, false, length, IsTrue};
 ghost use Rattle.std.specs.Time.{instant_nanos};
 ghost use Rattle.fax_net.specs.Patience.{left};
 ghost use Rattle.fax_net.specs.Peers.{IsWithin};
@@ -84,6 +84,13 @@ impl Seat {
     {
         let taken = now.saturating_duration_since(self.begun);
         self.is_sent_away || self.patience.is_over(taken)
+    }
+
+    /// Whether the connection waits for its peer: nothing can be read now, or nothing can be written.
+    pub(crate) fn is_stalled(&self) -> bool
+        ensures { IsTrue result ↔ ((self.now.may_read ≡ false) ⊎ (self.now.may_write ≡ false)) }
+    {
+        !self.may_read || !self.may_write
     }
 
     /// Has it leave.

@@ -23,6 +23,9 @@ const EVENT_LIMIT: usize = PLACES + 1;
 /// How many milliseconds a peer may move nothing where all places are taken and another one waits.
 const CROWD_LIMIT: u64 = 500;
 
+/// How many milliseconds a peer may move nothing once no more connections are accepted.
+const CLOSING_LIMIT: u64 = 1_000;
+
 /// How many milliseconds nobody is accepted behind one that couldn't be.
 const RETRY_LIMIT: u64 = 50;
 
@@ -68,6 +71,8 @@ pub struct Sockets<'r> {
     is_asked: bool,
     /// Until when nobody is accepted.
     retry: Option<Instant>,
+    /// Since when no more connections are accepted.
+    closing: Option<Instant>,
 }
 
 impl<'r> Sockets<'r> {
@@ -94,6 +99,7 @@ impl<'r> Sockets<'r> {
             may_accept: true,
             is_asked: false,
             retry: None,
+            closing: None,
         })
     }
 
@@ -164,21 +170,40 @@ impl<'r> Sockets<'r> {
     /// How long to wait at most until something is to be done for a peer that does nothing.
     fn time_left(&self, is_admitting: bool) -> Option<Duration> {
         let mut least = self.time_to_retry();
-        let is_crowded = is_admitting && self.is_crowded();
+        let silence = self.silence_limit(is_admitting);
         for seat in &self.seats {
             if let Some(seat) = seat {
-                let left = seat.time_left(self.now);
-                least = Some(sooner(least, left));
-                if is_crowded {
-                    let crowd = Duration::from_millis(CROWD_LIMIT);
-                    least = Some(sooner(least, crowd.saturating_sub(seat.silence(self.now))));
+                least = Some(sooner(least, seat.time_left(self.now)));
+                if let Some(silence) = silence
+                    && seat.is_stalled()
+                {
+                    let left = silence.saturating_sub(seat.silence(self.now));
+                    least = Some(sooner(least, left));
                 }
             }
+        }
+        if let Some(closing) = self.closing {
+            least = Some(sooner(least, self.patience.silence_left(self.elapsed(closing))));
         }
         match least {
             Some(left) => Some(left.saturating_add(Duration::from_millis(ROUNDING))),
             None => None,
         }
+    }
+
+    /// How long a stalled peer may move nothing now, if its own limit isn't all that counts.
+    fn silence_limit(&self, is_admitting: bool) -> Option<Duration> {
+        if !is_admitting {
+            Some(Duration::from_millis(CLOSING_LIMIT))
+        } else if self.is_crowded() {
+            Some(Duration::from_millis(CROWD_LIMIT))
+        } else {
+            None
+        }
+    }
+
+    fn elapsed(&self, since: Instant) -> Duration {
+        self.now.saturating_duration_since(since)
     }
 
     /// How long nobody is accepted yet.
@@ -221,12 +246,15 @@ impl<'r> Sockets<'r> {
         }
     }
 
-    /// Where all places are taken and another one waits, sends away who moved nothing for the longest time.
+    /// If all places are taken and another peer waits, sends away the stalled peer that has moved nothing for the longest
+    /// time.
     fn make_room(&mut self) {
         if !self.is_crowded() {
             return;
         }
-        let place = self.most_silent();
+        let Some(place) = self.most_silent() else {
+            return;
+        };
         let now = self.now;
         if let Some(Some(seat)) = self.seats.get_mut(place)
             && seat.silence(now) >= Duration::from_millis(CROWD_LIMIT)
@@ -235,20 +263,37 @@ impl<'r> Sockets<'r> {
         }
     }
 
-    /// The place of the peer that moved nothing for the longest time, among those of whom nothing is to be read.
-    fn most_silent(&self) -> usize {
-        let mut found = 0;
+    /// The place of the stalled peer that has moved nothing for the longest time, if there is one. A peer that isn't
+    /// stalled is read from or written to in this round.
+    fn most_silent(&self) -> Option<usize> {
+        let mut found = None;
         let mut longest = Duration::ZERO;
         for (place, seat) in self.seats.iter().enumerate() {
             if let Some(seat) = seat
-                && !seat.may_read
-                && seat.silence(self.now) > longest
+                && seat.is_stalled()
+                && (found.is_none() || seat.silence(self.now) > longest)
             {
                 longest = seat.silence(self.now);
-                found = place;
+                found = Some(place);
             }
         }
         found
+    }
+
+    /// Once no more connections are accepted, sends away each stalled peer that has moved nothing for a second, and all
+    /// after the time for which a peer may otherwise move nothing.
+    fn close_silent(&mut self) {
+        let now = self.now;
+        let closing = *self.closing.get_or_insert(now);
+        let is_over = self.patience.silence_left(self.elapsed(closing)).is_zero();
+        let limit = Duration::from_millis(CLOSING_LIMIT);
+        for seat in self.seats.iter_mut() {
+            if let Some(seat) = seat
+                && (is_over || seat.is_stalled() && seat.silence(now) >= limit)
+            {
+                seat.send_away();
+            }
+        }
     }
 
     /// Gives a place to a connection that was accepted.
@@ -306,6 +351,8 @@ impl Peers for Sockets<'_> {
         self.drain_leaving();
         if is_admitting {
             self.make_room();
+        } else {
+            self.close_silent();
         }
     }
 

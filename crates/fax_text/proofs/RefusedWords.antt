@@ -35,7 +35,9 @@ asks name words (inr (inr (inr (inr (inr (inr (inr (inr (inr (inl e)))))))))) = 
 asks name words (inr (inr (inr (inr (inr (inr (inr (inr (inr (inr (inl e))))))))))) = ap (λ w. fault_of program (name ∷ w)) e
 asks name words (inr (inr (inr (inr (inr (inr (inr (inr (inr (inr (inr (inl e)))))))))))) = ap (λ w. fault_of program (name ∷ w)) e
 asks name words (inr (inr (inr (inr (inr (inr (inr (inr (inr (inr (inr (inr (inl e))))))))))))) = ap (λ w. fault_of program (name ∷ w)) e
-asks name words (inr (inr (inr (inr (inr (inr (inr (inr (inr (inr (inr (inr (inr e))))))))))))) = ap (λ w. fault_of program (name ∷ w)) e
+asks name words (inr (inr (inr (inr (inr (inr (inr (inr (inr (inr (inr (inr (inr (inl e)))))))))))))) = ap (λ w. fault_of program (name ∷ w)) e
+asks name words (inr (inr (inr (inr (inr (inr (inr (inr (inr (inr (inr (inr (inr (inr (inl e))))))))))))))) = ap (λ w. fault_of program (name ∷ w)) e
+asks name words (inr (inr (inr (inr (inr (inr (inr (inr (inr (inr (inr (inr (inr (inr (inr e))))))))))))))) = ap (λ w. fault_of program (name ∷ w)) e
 
 -- where help is asked for, no command is entered that has no fault
 helped : (words : List Text) (result : Result Plan WordsFault) → fault_of program words ≡ kind.DisplayHelp ∷ [] → Reads words result → GivesHelp result
@@ -75,7 +77,8 @@ module _ (word : Text) (unknown : NamesNoCommand word) where
   unnamed =
       let name = option_map (λ (s : Text × List Text). s.0) in
       let help = met (bytes_eq (codes "help") word) (codes "help") None in
-      let import = met (bytes_eq (codes "import") word) (codes "import") help in
+      let settings = met (bytes_eq (codes "settings") word) (codes "settings") help in
+      let import = met (bytes_eq (codes "import") word) (codes "import") settings in
       let sendfax = met (bytes_eq (codes "sendfax") word) (codes "sendfax") import in
       let check = met (bytes_eq (codes "check") word) (codes "check") sendfax in
       let list = met (bytes_eq (codes "list") word) (codes "list") check in
@@ -84,8 +87,9 @@ module _ (word : Text) (unknown : NamesNoCommand word) where
       ∙ ap (λ b. name (met b (codes "list") check)) (not_named (codes "list") word unknown.3)
       ∙ ap (λ b. name (met b (codes "check") sendfax)) (not_named (codes "check") word unknown.4)
       ∙ ap (λ b. name (met b (codes "sendfax") import)) (not_named (codes "sendfax") word unknown.5)
-      ∙ ap (λ b. name (met b (codes "import") help)) (not_named (codes "import") word unknown.6)
-      ∙ ap (λ b. name (met b (codes "help") None)) (not_named (codes "help") word unknown.7)
+      ∙ ap (λ b. name (met b (codes "import") settings)) (not_named (codes "import") word unknown.6)
+      ∙ ap (λ b. name (met b (codes "settings") help)) (not_named (codes "settings") word unknown.7)
+      ∙ ap (λ b. name (met b (codes "help") None)) (not_named (codes "help") word unknown.8)
 
   -- it is met as a value
   word_stray : word_met app.top.rules (names_of app) false idle 1 word nothing_held ≡ (nothing_held, value)

@@ -4,7 +4,7 @@ use Rattle.clap.specs.Lexer.{strip_byte}
 use Rattle.clap.specs.Walk.{Text}
 use Rattle.fax_text.specs.Server.{file_names}
 use Rattle.fax_text.specs.declared.words.Plan.{Plan}
-use Rattle.fax_text.specs.declared.words.Plan.TheVariants.{Check, List as ListJobs, Replay, Serve, Sendfax, Import}
+use Rattle.fax_text.specs.declared.words.Plan.TheVariants.{Check, List as ListJobs, Replay, Serve, Sendfax, Import, Settings}
 use Rattle.fax_text.specs.declared.words.WordsFault.{WordsFault}
 use Rattle.fax_text.specs.declared.words.WordsFault.TheVariants.{Help, Usage, NoMemory}
 
@@ -44,12 +44,13 @@ AskForHelp words =
     ⊎ (words ≡ codes "check" ∷ codes "--help" ∷ []) ⊎ (words ≡ codes "check" ∷ codes "-h" ∷ [])
     ⊎ (words ≡ codes "sendfax" ∷ codes "--help" ∷ []) ⊎ (words ≡ codes "sendfax" ∷ codes "-h" ∷ [])
     ⊎ (words ≡ codes "import" ∷ codes "--help" ∷ []) ⊎ (words ≡ codes "import" ∷ codes "-h" ∷ [])
+    ⊎ (words ≡ codes "settings" ∷ codes "--help" ∷ []) ⊎ (words ≡ codes "settings" ∷ codes "-h" ∷ [])
 
 -- a word that names no command
 abbrev pub NamesNoCommand : Text → Type 0
 NamesNoCommand word =
     IsPlainWord word × ¬ (word ≡ codes "replay") × ¬ (word ≡ codes "serve") × ¬ (word ≡ codes "list") × ¬ (word ≡ codes "check")
-    × ¬ (word ≡ codes "sendfax") × ¬ (word ≡ codes "import") × ¬ (word ≡ codes "help")
+    × ¬ (word ≡ codes "sendfax") × ¬ (word ≡ codes "import") × ¬ (word ≡ codes "settings") × ¬ (word ≡ codes "help")
 
 -- words that no command has: none, an unknown command, an option without its value, or a command without what it needs
 abbrev pub BreakTheUsage : List Text → Type 0
@@ -67,6 +68,7 @@ GivesReplay setup controls (Ok (ListJobs plan)) = ⊥
 GivesReplay setup controls (Ok (Check plan)) = ⊥
 GivesReplay setup controls (Ok (Sendfax plan)) = ⊥
 GivesReplay setup controls (Ok (Import plan)) = ⊥
+GivesReplay setup controls (Ok (Settings files)) = ⊥
 GivesReplay setup controls (Err (Help text)) = ⊥
 GivesReplay setup controls (Err (Usage text)) = ⊥
 GivesReplay setup controls (Err NoMemory) = ⊤

@@ -53,6 +53,7 @@ pub record IsNoCommand (found : Option (Text × List Row)) : Type 0 where
   pub check : (rows : List Row) → ¬ (found ≡ Some (codes "check", rows))
   pub sendfax : (rows : List Row) → ¬ (found ≡ Some (codes "sendfax", rows))
   pub import : (rows : List Row) → ¬ (found ≡ Some (codes "import", rows))
+  pub settings : (rows : List Row) → ¬ (found ≡ Some (codes "settings", rows))
 
 -- it is wrong with what was found: no command was named, or one with such options
 abbrev pub IsMisuseOf : Option (Text × List Row) → Misuse → Type 0

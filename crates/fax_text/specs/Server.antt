@@ -16,6 +16,9 @@ with_files app = with_rule (with_rule app (long_option (codes "setup"))) (long_o
 abbrev pub replay_command : App
 replay_command = with_files (new_app (codes "replay"))
 
+abbrev pub settings_command : App
+settings_command = with_files (new_app (codes "settings"))
+
 -- `serve --db FILE --listen ADDRESS [--connections N] [--timeout SECONDS]`
 abbrev pub serve_command : App
 serve_command =

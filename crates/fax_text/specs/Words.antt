@@ -17,11 +17,11 @@ use Rattle.fax_text.specs.ImportWords.{IsImportPlan, import_command}
 use Rattle.fax_text.specs.ListWords.{IsListPlan, list_command}
 use Rattle.fax_text.specs.Misuse.{IsMisuseOf, usage_line}
 use Rattle.fax_text.specs.Option.{long_option, moment_or_none, number_from, number_or, required, short_option}
-use Rattle.fax_text.specs.Server.{IsServePlan, file_names, files_in, replay_command, serve_command}
+use Rattle.fax_text.specs.Server.{IsServePlan, file_names, files_in, replay_command, serve_command, settings_command}
 use Rattle.fax_text.specs.declared.words.Misuse.{Misuse}
 use Rattle.fax_text.specs.declared.words.Misuse.TheVariants as misuse
 use Rattle.fax_text.specs.declared.words.Plan.{Plan}
-use Rattle.fax_text.specs.declared.words.Plan.TheVariants.{Check, List as ListJobs, Replay, Serve, Sendfax, Import}
+use Rattle.fax_text.specs.declared.words.Plan.TheVariants.{Check, List as ListJobs, Replay, Serve, Sendfax, Import, Settings}
 use Rattle.fax_text.specs.declared.words.WordsFault.{WordsFault}
 use Rattle.fax_text.specs.declared.words.WordsFault.TheVariants.{Help, Usage, NoMemory}
 
@@ -49,8 +49,8 @@ sendfax_command = with_request (with_times (with_limits (with_fax (new_app (code
 -- `faxqd COMMAND`
 abbrev pub program : App
 program =
-    with_subcommand (with_subcommand (with_subcommand (with_subcommand (with_subcommand (with_subcommand (on_top (λ s. record s { subcommand_required = true }) (new_app (codes "faxqd")))
-    replay_command.top) serve_command.top) list_command.top) check_command.top) sendfax_command.top) import_command.top
+    with_subcommand (with_subcommand (with_subcommand (with_subcommand (with_subcommand (with_subcommand (with_subcommand (on_top (λ s. record s { subcommand_required = true }) (new_app (codes "faxqd")))
+    replay_command.top) serve_command.top) list_command.top) check_command.top) sendfax_command.top) import_command.top) settings_command.top
 
 -- ---- what the words ask for
 
@@ -77,8 +77,9 @@ IsPlanOf found (ListJobs plan) = (rows : List Row) × (found ≡ Some (codes "li
 IsPlanOf found (Check plan) = (rows : List Row) × (found ≡ Some (codes "check", rows)) × IsCheckPlan rows plan
 IsPlanOf found (Sendfax plan) = (rows : List Row) × (found ≡ Some (codes "sendfax", rows)) × IsSendPlan rows plan
 IsPlanOf found (Import plan) = (rows : List Row) × (found ≡ Some (codes "import", rows)) × IsImportPlan rows plan
+IsPlanOf found (Settings files) = (rows : List Row) × (found ≡ Some (codes "settings", rows)) × (file_names files ≡ files_in rows)
 
--- No plan has what they say. Whatever the options of `replay` say, there is one.
+-- No plan has what they say. Whatever the options of `replay` and of `settings` say, there is one.
 pub record IsNoPlan (found : Option (Text × List Row)) : Type 0 where
   pub replay : (rows : List Row) → ¬ (found ≡ Some (codes "replay", rows))
   pub serve : (plan : ServePlan) → ¬ (IsPlanOf found (Serve plan))
@@ -86,6 +87,7 @@ pub record IsNoPlan (found : Option (Text × List Row)) : Type 0 where
   pub check : (plan : CheckPlan) → ¬ (IsPlanOf found (Check plan))
   pub sendfax : (plan : SendPlan) → ¬ (IsPlanOf found (Sendfax plan))
   pub import : (plan : ImportPlan) → ¬ (IsPlanOf found (Import plan))
+  pub settings : (rows : List Row) → ¬ (found ≡ Some (codes "settings", rows))
 
 -- text that is asked for, and no fault
 abbrev pub IsAsked : ErrorKind → Type 0

@@ -1,11 +1,11 @@
-//! The words of the commands that serve: `replay` and `serve`.
+//! The arguments of the commands that serve, `replay` and `serve`, and of the one that shows what they are set to, `settings`.
 
 ghost use Rattle.std.specs.Prelude.{◌≡◌, false, IfErr, IfOk, IsErr};
 ghost use Rattle.std.specs.Option.{option_copied};
 ghost use Rattle.clap.specs.Words.{app_of, found_of, rows_of};
 ghost use Rattle.clap.specs.declared.builder.command.Command.TheViews.{out-Command as fields_of};
 ghost use Rattle.fax_text.specs.declared.server.ServePlan.{ServePlan};
-ghost use Rattle.fax_text.specs.Server.{IsServePlan, file_names, files_in, replay_command, serve_command, with_files};
+ghost use Rattle.fax_text.specs.Server.{IsServePlan, file_names, files_in, replay_command, serve_command, settings_command, with_files};
 ghost use Rattle.fax_text.specs.Misuse.{IsMisuse};
 ghost use Rattle.fax_text.specs.Option.{number_or};
 
@@ -19,6 +19,9 @@ pub(crate) const REPLAY: &str = "replay";
 
 /// The command that serves connections.
 pub(crate) const SERVE: &str = "serve";
+
+/// The command that prints what an office's files mean.
+pub(crate) const SETTINGS: &str = "settings";
 
 /// The most connections that one run serves.
 const CONNECTION_LIMIT: u64 = 1_000_000;
@@ -111,6 +114,16 @@ pub(crate) fn replay_command<'a>(alloc: Global) -> Result<Command<'a>, AllocErro
         .about("Answers the requests on standard input, over tables in memory")
         .after_help("Example:\n  faxqd replay --setup office.setup < one-fax.http");
     with_files(alloc, replay)
+}
+
+pub(crate) fn settings_command<'a>(alloc: Global) -> Result<Command<'a>, AllocError>
+    ensures shape { IfOk result (λ command. app_of command ≡ settings_command) }
+    ensures local { IfOk result (λ command. (fields_of command).has_globals ≡ false) }
+{
+    let settings = Command::new(alloc, SETTINGS)
+        .about("Prints what setup and controls mean, and which lines aren't used")
+        .after_help("Example:\n  faxqd settings --setup office.setup --controls office.controls");
+    with_files(alloc, settings)
 }
 
 pub(crate) fn serve_command<'a>(alloc: Global) -> Result<Command<'a>, AllocError>

@@ -7,6 +7,8 @@ pub enum Status {
     Success = 0,
     Fault = 1,
     Usage = 2,
+    /// All is done, and something that was read isn't used.
+    Unused = 3,
 }
 
 impl From<Status> for ExitCode {

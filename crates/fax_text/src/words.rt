@@ -15,7 +15,8 @@ use crate::import_words::{IMPORT, ImportPlan, import_command, import_plan_in};
 use crate::list_words::{LIST, ListPlan, list_command, list_plan_in};
 use crate::sendfax::SendPlan;
 use crate::server::{
-    OfficeFiles, REPLAY, SERVE, ServePlan, files_in, replay_command, serve_command, serve_plan_in,
+    OfficeFiles, REPLAY, SERVE, SETTINGS, ServePlan, files_in, replay_command, serve_command,
+    serve_plan_in, settings_command,
 };
 use clap::error::ErrorKind;
 use clap::{Arg, ArgMatches, Command, Error};
@@ -40,6 +41,8 @@ pub enum Plan<'a> {
     Sendfax(SendPlan<'a>),
     /// Print the requests that bring the jobs of an older queue in.
     Import(ImportPlan<'a>),
+    /// Print what these files mean.
+    Settings(OfficeFiles<'a>),
 }
 
 /// Why words ask for no command.
@@ -163,6 +166,9 @@ fn plan_in<'a>(alloc: Global, matches: &ArgMatches<'a>) -> Result<Plan<'a>, Misu
     if let Some(options) = matches.subcommand_matches(IMPORT) {
         return Ok(Plan::Import(import_plan_in(alloc, options)?));
     }
+    if let Some(options) = matches.subcommand_matches(SETTINGS) {
+        return Ok(Plan::Settings(files_in(options)));
+    }
     Err(Misuse::Command)
 }
 
@@ -282,7 +288,8 @@ fn command<'a>(alloc: Global) -> Result<Command<'a>, AllocError>
     let program = with_command(program, list_command(alloc))?;
     let program = with_command(program, check_command(alloc))?;
     let program = with_command(program, sendfax_command(alloc))?;
-    with_command(program, import_command(alloc))
+    let program = with_command(program, import_command(alloc))?;
+    with_command(program, settings_command(alloc))
 }
 
 /// Adds a command, unless memory ran out for it.

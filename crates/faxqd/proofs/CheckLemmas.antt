@@ -26,7 +26,7 @@ use Rattle.fax_tables.specs.Row.{number, raised}
 use Rattle.fax_tables.specs.Tables.{RowsMean, TablesMean, meta_as, version_of}
 use Rattle.fax_tables.specs.declared.fault.StoreFault.{StoreFault}
 use Rattle.fax_text.specs.declared.status.Status.{Status}
-use Rattle.fax_text.specs.declared.status.Status.TheVariants.{Success, Fault, Usage}
+use Rattle.fax_text.specs.declared.status.Status.TheVariants.{Success, Fault, Usage, Unused}
 use Rattle.faxqd.specs.Check.{Checks, ChecksBy, HasNoDatabase, IsTrueOf, IsVerdictOn, MeanSound, Prints, StandByRowid, sound_line}
 
 -- ---- rows that were taken
@@ -122,10 +122,17 @@ module _ {W : Type 0} (contents : W → Option (List ℕ)) (out out₂ : Watched
   no_usage (Ok (Some flaw)) line prints = prints
   no_usage (Err fault) line prints = prints
 
+  -- nor is anything not used
+  all_used : (verdict : Result (Option Flaw) StoreFault) (line : List ℕ) → Prints contents out out₂ verdict Unused line → ⊥
+  all_used (Ok None) line prints = prints
+  all_used (Ok (Some flaw)) line prints = prints
+  all_used (Err fault) line prints = prints
+
   checks_of : (status : Status) (line : List ℕ) (new : State) → ChecksBy contents out out₂ image status line new → Checks contents out out₂ status line
   checks_of Success line new by = well by.verdict line by.prints
   checks_of Fault line new by = inr (by.verdict, by.prints)
   checks_of Usage line new by = no_usage by.verdict line by.prints
+  checks_of Unused line new by = all_used by.verdict line by.prints
 
   -- however it ends, that is its end
   pub checks_with : {Q : Type 0} (state_of : Q → State) (status : Status) (line : List ℕ) (left : Option Q)

@@ -29,7 +29,7 @@ use Rattle.fax_net.specs.declared.sockets.Sockets.{Sockets}
 use Rattle.faxqd.specs.NoQueue.{HasNoQueue}
 use Rattle.faxqd.specs.Serve.{Ends, HasServed, IsFoundAs, ServesBy, ServesHeld}
 use Rattle.fax_text.specs.declared.status.Status.{Status}
-use Rattle.fax_text.specs.declared.status.Status.TheVariants.{Success, Fault, Usage}
+use Rattle.fax_text.specs.declared.status.Status.TheVariants.{Success, Fault, Usage, Unused}
 use Rattle.fax_text.specs.declared.server.ServePlan.{ServePlan}
 
 -- ---- what was found
@@ -102,6 +102,7 @@ module _ {W : Type 0} (contents : W → Option (List ℕ)) (out out₂ : Watched
     | inr (listened, is, says) ↦ inr (inr (listened.said, says))
   ]
   ends_by Usage line office new shut by = absurd by.told
+  ends_by Unused line office new shut by = absurd by.told
 
   -- where no queue was there, it ends with a fault
   no_queue : (status : Status) (line : List ℕ) → status ≡ Fault → out₂ ≡ out → HasNoQueue plan.files line → Ends contents out out₂ plan status line

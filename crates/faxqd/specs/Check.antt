@@ -21,7 +21,7 @@ use Rattle.fax_store.specs.Adopt.{IsOurs}
 use Rattle.fax_tables.specs.Tables.{AreByRowid, RowsMean}
 use Rattle.fax_tables.specs.declared.fault.StoreFault.{StoreFault}
 use Rattle.fax_text.specs.declared.status.Status.{Status}
-use Rattle.fax_text.specs.declared.status.Status.TheVariants.{Success, Fault, Usage}
+use Rattle.fax_text.specs.declared.status.Status.TheVariants.{Success, Fault, Usage, Unused}
 
 -- ---- what is told
 
@@ -84,3 +84,4 @@ module _ {W : Type 0} (contents : W → Option (List ℕ)) (out out₂ : Watched
   Checks Success line = Put contents out out₂ sound_line false × (line ≡ [])
   Checks Fault line = ((out₂ ≡ out) × HasNoDatabase line) ⊎ ((verdict : Result (Option Flaw) StoreFault) × Prints verdict Fault line)
   Checks Usage line = ⊥
+  Checks Unused line = ⊥

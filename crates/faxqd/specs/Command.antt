@@ -9,13 +9,14 @@ use Rattle.faxqd.specs.Replay.{Ends}
 use Rattle.fax_net.specs.Sendfax.{Hands}
 use Rattle.faxqd.specs.Saying.{Says}
 use Rattle.faxqd.specs.Serve.{Ends as EndsServing}
+use Rattle.faxqd.specs.Settings.{ShowsSettings}
 use Rattle.fax_text.specs.CommandLine.{IsFixed}
 use Rattle.fax_ending.specs.Ending.{no_memory, write_failed}
 use Rattle.fax_text.specs.Words.{Reads}
 use Rattle.fax_text.specs.declared.status.Status.{Status}
-use Rattle.fax_text.specs.declared.status.Status.TheVariants.{Success, Fault, Usage as Misused}
+use Rattle.fax_text.specs.declared.status.Status.TheVariants.{Success, Fault, Usage as Misused, Unused}
 use Rattle.fax_text.specs.declared.words.Plan.{Plan}
-use Rattle.fax_text.specs.declared.words.Plan.TheVariants.{Check, Replay, Serve, List as ListJobs, Sendfax, Import}
+use Rattle.fax_text.specs.declared.words.Plan.TheVariants.{Check, Replay, Serve, List as ListJobs, Sendfax, Import, Settings}
 use Rattle.fax_text.specs.declared.words.WordsFault.{WordsFault}
 use Rattle.fax_text.specs.declared.words.WordsFault.TheVariants.{Help, Usage, NoMemory}
 
@@ -29,12 +30,15 @@ module _ {W E : Type 0} (contents : W → Option (List ℕ)) (says : E → Optio
   Tells (Help text) Success = Put contents out out₂ (string_bytes text) false × (err₂ ≡ err)
   Tells (Help text) Fault = BrokeOff contents out out₂ (string_bytes text) × Says says err err₂ write_failed
   Tells (Help text) Misused = ⊥
+  Tells (Help text) Unused = ⊥
   Tells (Usage text) Success = ⊥
   Tells (Usage text) Fault = ⊥
   Tells (Usage text) Misused = (out₂ ≡ out) × Says says err err₂ (string_bytes text)
+  Tells (Usage text) Unused = ⊥
   Tells NoMemory Success = ⊥
   Tells NoMemory Fault = (out₂ ≡ out) × Says says err err₂ no_memory
   Tells NoMemory Misused = ⊥
+  Tells NoMemory Unused = ⊥
 
 module _ {R W : Type 0} (remaining : R → Option (List ℕ)) (contents : W → Option (List ℕ))
     (reader reader₂ : Watched R) (out out₂ : Watched W) where
@@ -46,6 +50,7 @@ module _ {R W : Type 0} (remaining : R → Option (List ℕ)) (contents : W → 
   CarriesOut (Check plan) status line = (reader₂ ≡ reader) × Checks contents out out₂ status line
   CarriesOut (Sendfax plan) status line = (reader₂ ≡ reader) × Hands contents out out₂ plan status line
   CarriesOut (Import plan) status line = (reader₂ ≡ reader) × Imports contents out out₂ plan status line
+  CarriesOut (Settings files) status line = (reader₂ ≡ reader) × ShowsSettings contents out out₂ files status line
 
   module _ {E : Type 0} (says : E → Option (List ℕ)) (err err₂ : Watched E) where
     -- a plan is carried out, and the line is said that this ends with, if there is one

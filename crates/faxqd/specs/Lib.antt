@@ -7,3 +7,4 @@ pub mod Replay
 pub mod Restarts
 pub mod Saying
 pub mod Serve
+pub mod Settings

@@ -11,6 +11,7 @@ use crate::list::list;
 use crate::replay::replay;
 use crate::saying::say_at_end;
 use crate::serve::serve;
+use crate::settings::settings;
 use fax_ending::Ending;
 use fax_http::{MachineClock, Watched};
 use fax_net::sendfax::sendfax;
@@ -60,6 +61,7 @@ fn carry_out<'a, S: Start, R: Read + Drop, W: Write + Drop>(
         Plan::Check(plan) => check(rt, plan, start, out).0,
         Plan::Sendfax(plan) => sendfax(rt, &plan, out),
         Plan::Import(plan) => import(rt, &plan, out),
+        Plan::Settings(files) => settings(rt, files, out),
     }
 }
 

@@ -10,6 +10,7 @@ mod queue;
 mod replay;
 mod saying;
 mod serve;
+mod settings;
 
 use fax_http::Watched;
 use sqlite::Unknown;

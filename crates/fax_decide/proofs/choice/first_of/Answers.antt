@@ -1,4 +1,5 @@
-use Rattle.std.proofs.Common.{true, rules, ◌≡◌, ◌≤◌, Ok, sym, subst, ap, ◌∙◌, arith, is_some}
+use Rattle.std.proofs.Common.{true≢false, ◌≤◌, ℕ, List, length, Ok, sym, subst, ap, ◌∙◌, arith}
+use Rattle.std.specs.Prelude.{◌==◌}
 use Rattle.std.specs.Vec.Iter.{into_iter_items}
 use Rattle.fax_store.specs.Candidates.{StandsAt}
 use Rattle.fax_store.specs.declared.candidates.Asked.{Asked}
@@ -49,10 +50,9 @@ loop-preserved g c = record {
       (told.1, rw (stood.1, stood.2, stood.3) went));
 }
 
-pub returns-then-is_some-clause-consults : goal.returns-then-is_some-clause-consults
-returns-then-is_some-clause-consults g c = goes_on (both (both c.loop.invariant.consults (by_step (Ok c.in_ok-prospect.field-0) c.prospect.ensures.leaves c.in_ok-prospect.ensures.opens c.in_ok-prospect.ensures.found)) c.in_ok-goes.ensures.consults) (λ m k at calls sound same stands busy.
-    let one : is_some c.goes.new.busy ≡ true = search rules in
-    ((calls.1 (calls.0.0 same stands busy).0).1, λ free. absurd (let no = sym one ∙ ap is_some (free c.if-ends_at_busy.true) in cc)))
+pub returns-then-not-is_empty-clause-consults : goal.returns-then-not-is_empty-clause-consults
+returns-then-not-is_empty-clause-consults g c = goes_on (both (both c.loop.invariant.consults (by_step (Ok c.in_ok-prospect.field-0) c.prospect.ensures.leaves c.in_ok-prospect.ensures.opens c.in_ok-prospect.ensures.found)) c.in_ok-goes.ensures.consults) (λ m k at calls sound same stands busy.
+    ((calls.1 (calls.0.0 same stands busy).0).1, λ free. absurd (true≢false (sym (sym c.if-not-is_empty.true ∙ c.is_empty.ensures ∙ ap (λ (numbers : List (List ℕ)). length numbers == 0) (c.as_slice.ensures.value ∙ free c.if-ends_at_busy.true))))))
 
 pub returns-clause-consults : goal.returns-clause-consults
 returns-clause-consults g c = goes_on c.loop.invariant.consults (λ m k at went sound same stands busy.

@@ -6,7 +6,7 @@ use Rattle.fax_text.proofs.WordsLemmas.{adds_made, plain_is_local}
 use Rattle.fax_text.specs.CheckWords.{check_command}
 use Rattle.fax_text.specs.ImportWords.{import_command}
 use Rattle.fax_text.specs.ListWords.{list_command}
-use Rattle.fax_text.specs.Server.{replay_command, serve_command}
+use Rattle.fax_text.specs.Server.{replay_command, serve_command, settings_command}
 use Rattle.fax_text.specs.Words.{sendfax_command}
 use Rattle.fax_text.proofs.words.command.Goals as goal
 
@@ -23,6 +23,7 @@ returns c =
     let is_local = IfOk-weaker c.sendfax_command.result _ (λ made. (fields_of made).has_globals ≡ false)
     (λ made e. plain_is_local _ _ _ _ (ap (λ (a : App). a.top.is_plain) e)) c.sendfax_command.ensures in
     let sendfax = adds_made _ _ _ _ sendfax_command c.in_ok-program-5.ensures c.sendfax_command.ensures is_local check in
-    IfOk-weaker c.with_command-6.result _ _
-    (λ made adds. adds_made _ made _ _ import_command adds c.import_command.ensures.shape c.import_command.ensures.local sendfax)
-    c.with_command-6.ensures
+    let import = adds_made _ _ _ _ import_command c.in_ok-program-6.ensures c.import_command.ensures.shape c.import_command.ensures.local sendfax in
+    IfOk-weaker c.with_command-7.result _ _
+    (λ made adds. adds_made _ made _ _ settings_command adds c.settings_command.ensures.shape c.settings_command.ensures.local import)
+    c.with_command-7.ensures

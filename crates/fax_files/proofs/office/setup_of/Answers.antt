@@ -1,0 +1,8 @@
+use Rattle.std.proofs.Common.{rules}
+use Rattle.fax_files.proofs.office.setup_of.Goals as goal
+
+pub returns-in-Ok : goal.returns-in-Ok
+returns-in-Ok c = record { text = c.in-Ok.ensures.text; not_text = c.in-Ok.ensures.not_text }
+
+pub returns : goal.returns
+returns c = (search rules, record { text = c.in-Err.ensures.text; not_text = c.in-Err.ensures.not_text })
