@@ -1,3 +1,4 @@
 mod DatabaseLemmas
 mod RowsLines
+mod ShownLemmas
 mod SpoolLemmas

@@ -1,11 +1,12 @@
 -- What the files of an office mean, and whether a line of them isn't used.
-use Rattle.std.specs.Prelude.{◌≡◌, ℕ, Bool, ◌||◌, List, Result, Ok, Err}
+use Rattle.std.specs.Prelude.{◌≡◌, ◌⊎◌, ℕ, Bool, ◌||◌, List, Result, Ok, Err, Vec}
 use Rattle.std.specs.List.{list_any}
+use Rattle.std.specs.declared.alloc.Global.{Global}
 use Rattle.fax_dest.specs.Unused.{is_unused_control, is_unused_setting}
 use Rattle.fax_dest.specs.declared.controls.Controls.{Controls as Rules}
 use Rattle.fax_dest.specs.declared.setup.Setup.{Setup as Settings}
 use Rattle.fax_lines.specs.Reading.{lines}
-use Rattle.fax_files.specs.Office.{FileRead, GivesControls, GivesSetup, IsOfficeOf, IsReadOf}
+use Rattle.fax_files.specs.Office.{GivesControls, GivesSetup, IsReadOf}
 use Rattle.fax_files.specs.declared.office.OfficeFault.{OfficeFault}
 use Rattle.fax_files.specs.declared.shown.Shown.{Shown}
 use Rattle.fax_text.specs.declared.server.OfficeFiles.{OfficeFiles}
@@ -26,19 +27,22 @@ abbrev pub ShowsControls : List ℕ → Result Bool OfficeFault → Type 0
 ShowsControls text (Ok found) = ((controls : Rules) × GivesControls text (Ok controls)) × (found ≡ has_unused_control text)
 ShowsControls text (Err fault) = GivesControls text (Err fault)
 
--- both files say something, and it is known whether a line of them isn't used; or the fault is that of an office
-abbrev pub GivesShown : FileRead → FileRead → Result Shown OfficeFault → Type 0
-GivesShown (Ok setup) (Ok controls) (Ok shown) =
-    ((s : Settings) × GivesSetup setup.items (Ok s)) × ((c : Rules) × GivesControls controls.items (Ok c))
-    × (shown.has_unused ≡ (has_unused_setting setup.items || has_unused_control controls.items))
-GivesShown (Ok setup) (Err fault) (Ok shown) = ⊥
-GivesShown (Err fault) controls (Ok shown) = ⊥
-GivesShown setup controls (Err fault) = IsOfficeOf setup controls (Err fault)
+-- both texts say something, and it is known whether a line of them isn't used; or the fault of one of them
+abbrev pub ShowsBoth : List ℕ → List ℕ → Result Shown OfficeFault → Type 0
+ShowsBoth setup controls (Ok shown) =
+    ((s : Settings) × GivesSetup setup (Ok s)) × ((c : Rules) × GivesControls controls (Ok c))
+    × (shown.has_unused ≡ (has_unused_setting setup || has_unused_control controls))
+ShowsBoth setup controls (Err fault) = GivesSetup setup (Err fault) ⊎ GivesControls controls (Err fault)
 
--- what comes of the files that are named
-pub record IsShownOf (files : OfficeFiles) (result : Result Shown OfficeFault) : Type 0 where
-  pub setup : FileRead
-  pub controls : FileRead
-  pub setup_read : IsReadOf files.setup setup
-  pub controls_read : IsReadOf files.controls controls
-  pub shown : GivesShown setup controls result
+-- both files were read, and that is what comes of their texts
+pub record IsShownBy (files : OfficeFiles) (result : Result Shown OfficeFault) : Type 0 where
+  pub setup : Vec ℕ Global
+  pub controls : Vec ℕ Global
+  pub setup_read : IsReadOf files.setup (Ok setup)
+  pub controls_read : IsReadOf files.controls (Ok controls)
+  pub shown : ShowsBoth setup.items controls.items result
+
+-- what comes of the files that are named; one of them may be such that it can't be read
+abbrev pub IsShownOf : OfficeFiles → Result Shown OfficeFault → Type 0
+IsShownOf files (Ok shown) = IsShownBy files (Ok shown)
+IsShownOf files (Err fault) = IsReadOf files.setup (Err fault) ⊎ (IsReadOf files.controls (Err fault) ⊎ IsShownBy files (Err fault))

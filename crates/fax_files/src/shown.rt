@@ -1,6 +1,6 @@
 //! What the setup and the controls of an office mean, in text.
 ghost use Rattle.std.specs.Prelude.{◌≡◌, false};
-ghost use Rattle.fax_files.specs.Shown.{GivesShown, IsShownOf, ShowsControls, ShowsSetup};
+ghost use Rattle.fax_files.specs.Shown.{IsShownOf, ShowsBoth, ShowsControls, ShowsSetup};
 
 use crate::office::{OfficeFault, controls_of, read_file, setup_of};
 use fax_dest::{FileFault, FileKind};
@@ -27,28 +27,22 @@ const NOT_TEXT: FileFault = FileFault {
 ///
 /// # Errors
 ///
-/// The first fault, the setup's before the controls', or out of memory.
+/// A file that can't be read, the first fault of the setup or else of the controls, or out of memory.
 pub fn show_office<'a>(rt: &HostRuntime, files: OfficeFiles<'a>) -> Result<Shown, OfficeFault<'a>>
     ensures { IsShownOf files.entry result }
 {
-    let setup = read_file(rt, files.setup);
-    let controls = read_file(rt, files.controls);
-    show_files(rt.alloc(), setup, controls)
+    let setup = read_file(rt, files.setup)?;
+    let controls = read_file(rt, files.controls)?;
+    show_texts(rt.alloc(), setup.as_slice(), controls.as_slice())
 }
 
-/// What two files that were read mean.
-fn show_files<'a>(
-    alloc: Global,
-    setup: Result<Vec<u8>, OfficeFault<'a>>,
-    controls: Result<Vec<u8>, OfficeFault<'a>>,
-) -> Result<Shown, OfficeFault<'a>>
-    ensures { GivesShown setup.entry controls.entry result }
+/// What two texts mean.
+fn show_texts<'a>(alloc: Global, setup: &[u8], controls: &[u8]) -> Result<Shown, OfficeFault<'a>>
+    ensures { ShowsBoth setup.now controls.now result }
 {
-    let setup = setup?;
     let mut text = String::new(alloc);
-    let is_setting_unused = show_setup(alloc, &mut text, setup.as_slice())?;
-    let controls = controls?;
-    let is_control_unused = show_controls(alloc, &mut text, controls.as_slice())?;
+    let is_setting_unused = show_setup(alloc, &mut text, setup)?;
+    let is_control_unused = show_controls(alloc, &mut text, controls)?;
     Ok(Shown {
         text,
         has_unused: is_setting_unused || is_control_unused,

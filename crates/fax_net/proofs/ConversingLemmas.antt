@@ -1,6 +1,6 @@
 -- What becomes of one connection, as its messages are answered.
-use Rattle.std.proofs.Common.{◌≡◌, ◌⊎◌, ℕ, ◌+◌, ◌<◌, Bool, true, false, not, ◌&&◌, ◌||◌, List, [], ◌∷◌, ◌++◌, length, None, refl, ap, sym, ◌∙◌, subst, inl, inr, append-nil, arith}
-use Rattle.std.specs.Prelude.{⊤}
+use Rattle.std.proofs.Common.{◌≡◌, ◌⊎◌, ℕ, ◌+◌, ◌<◌, ◌≤◌, Bool, true, false, not, ◌&&◌, ◌||◌, List, [], ◌∷◌, ◌++◌, length, None, refl, ap, sym, ◌∙◌, subst, inl, inr, append-nil, arith}
+use Rattle.std.specs.Prelude.{⊤, nat_le}
 use Rattle.fax_http.specs.declared.message.Broken.{Broken}
 use Rattle.fax_http.specs.declared.message.Broken.TheVariants.{BadHttp, TooLarge}
 use Rattle.fax_http.specs.declared.turn.Found.{Found}
@@ -11,15 +11,17 @@ use Rattle.fax_http.specs.Message.{IsUnfinished, is_last}
 use Rattle.fax_http.specs.Serving.{Answering}
 use Rattle.fax_http.proofs.TurnLemmas.{none_unfinished}
 use Rattle.fax_http.proofs.ServingLemmas.{go_on_one_more, length_one_more, reads_one_more, spelled_one_more}
-use Rattle.fax_net.specs.Deeds.{Admits}
-use Rattle.fax_net.specs.History.{Answered, AreAnswered, Came, FailsIn, GoesOn, IsAttended, IsDone, IsNext, IsQuiet, Missed, Refused, Step, Talk, Waits, acted, owed, refusal, talk}
-use Rattle.fax_net.specs.Link.{AwaitsNext, EndsAt, HasAnswered, HasEnded, HasSaidAll, Holds, IsGoing, IsUnused, Keeps, awaits, is_done, is_due}
+use Rattle.fax_net.specs.Deeds.{Admits, HoldsUp}
+use Rattle.fax_net.specs.History.{Answered, AreAnswered, Came, Failed, FailsIn, GoesOn, Held, IsAttended, IsDone, IsNext, IsQuiet, Missed, Refused, Step, Talk, Waits, acted, asks_for_listing, owed, refusal, room, talk, untaken}
+use Rattle.fax_net.specs.Link.{AwaitsNext, EndsAt, HasAnswered, HasEnded, HasSaidAll, Holds, IsGoing, IsUnused, Keeps, awaits, is_done, is_due, is_held}
 use Rattle.fax_net.specs.Many.{GoesFrom, Runs}
 use Rattle.fax_net.specs.declared.link.Link.{Link}
 use Rattle.fax_net.specs.declared.link.Stage.{Stage}
 use Rattle.fax_net.specs.declared.link.Stage.TheVariants.{Free, Open, Ended, Ending}
-use Rattle.fax_net.proofs.HistoryLemmas.{HasTaken, goes_by, goes_still}
+use Rattle.fax_net.proofs.HistoryLemmas.{HasTaken, goes_both, goes_by, goes_still}
 use Rattle.fax_net.proofs.LinkLemmas.{awaits_parts, due_parts, held, holds, quiet}
+use Rattle.fax_net.proofs.ListLemmas.{both}
+use Rattle.fax_net.proofs.RoomLemmas.{none_untaken, others_less, room_gone}
 
 -- ---- what is owed
 
@@ -126,32 +128,39 @@ refused_holds link link₂ t broken g none ending is = held (acted (Refused brok
 
 -- ---- its place in the history
 
+-- where a connection that asks for a listing isn't held, there is room
+not_full : (full due asks : Bool) → (full && (due && asks)) ≡ false → due ≡ true → asks ≡ true → full ≡ false
+not_full true true true e d a = absurd cc
+not_full true true false e d a = absurd cc
+not_full true false asks e d a = absurd cc
+not_full false due asks e d a = refl
+
 module _ {P H : Type 0} (did : P → Step → P → Type 0) (answers : Answering H) (over : H → Bool) (place : ℕ) (below : place < 64) (start : P) (first : H) (earlier : List Step)
     (p : P) (h : H) (runs : Runs did answers over start first earlier p h) (link : Link) (kept : Holds (talk place earlier) link) where
   module _ (h₂ : H) (link₂ : Link) (on₁ : over h ≡ false) where
     -- the history goes on by what was found and kept of it
-    found_goes : (f : Found) (moved : Bool) → is_due link ≡ true → (talk place earlier).replies ≡ 0 → Finds answers over h h₂ link.said link₂.said f → Keeps f link link₂ moved
+    found_goes : (f : Found) (moved : Bool) → is_due link ≡ true → (asks_for_listing link.said ≡ true → untaken earlier < room) → (talk place earlier).replies ≡ 0 → Finds answers over h h₂ link.said link₂.said f → Keeps f link link₂ moved
         → GoesFrom did answers over place p h₂ link₂ 0 0 moved (λ t. ⊤) start first earlier
-    found_goes (found.Answered bytes) moved due fresh (it, going, on) keeps =
+    found_goes (found.Answered bytes) moved due roomy fresh (it, going, on) keeps =
         let parts = due_parts link due in
         let g : IsGoing (talk place earlier) link = holds (talk place earlier) link Open parts.0 kept in
         goes_by did answers over place below start first earlier (Answered it.turn (over h₂)) p h₂ link₂ 0 0 moved (λ t. ⊤) runs.right runs.happens
-        (h, runs.answered, on₁, it.step, refl) (next_is answers over h h₂ link link₂ (talk place earlier) bytes g parts.1 it fresh)
+        (h, runs.answered, on₁, it.step, refl) (next_is answers over h h₂ link link₂ (talk place earlier) bytes g parts.1 it fresh) (link.said, g.goes_on, roomy)
         (answered_holds answers over h h₂ link link₂ (talk place earlier) bytes g parts.1 it going parts.2 (refl, keeps.1, keeps.2, keeps.3, keeps.4)) refl keeps.0 tt
-    found_goes (found.Last bytes) moved due fresh (it, why) keeps =
+    found_goes (found.Last bytes) moved due roomy fresh (it, why) keeps =
         let parts = due_parts link due in
         let g : IsGoing (talk place earlier) link = holds (talk place earlier) link Open parts.0 kept in
         goes_by did answers over place below start first earlier (Answered it.turn (over h₂)) p h₂ link₂ 0 0 moved (λ t. ⊤) runs.right runs.happens
-        (h, runs.answered, on₁, it.step, refl) (next_is answers over h h₂ link link₂ (talk place earlier) bytes g parts.1 it fresh)
+        (h, runs.answered, on₁, it.step, refl) (next_is answers over h h₂ link link₂ (talk place earlier) bytes g parts.1 it fresh) (link.said, g.goes_on, roomy)
         (last_holds answers over h h₂ link link₂ (talk place earlier) bytes g parts.1 it why (refl, keeps.1, keeps.2)) refl keeps.0 tt
-    found_goes (found.Refused bytes) moved due fresh f keeps =
+    found_goes (found.Refused bytes) moved due roomy fresh f keeps =
         let parts = due_parts link due in
         let g : IsGoing (talk place earlier) link = holds (talk place earlier) link Open parts.0 kept in
         goes_by did answers over place below start first earlier (Refused f.broken) p h₂ link₂ 0 0 moved (λ t. ⊤) runs.right runs.happens
         (subst (λ v. AreAnswered answers over first earlier v) (sym f.stays.same_handler) runs.answered)
-        (record { rest = link.said; goes_on = g.goes_on; some = f.some; fails = fails_in (talk place earlier) link.said f.broken f.never })
+        (record { rest = link.said; goes_on = g.goes_on; some = f.some; fails = fails_in (talk place earlier) link.said f.broken f.never }) tt
         (refused_holds link link₂ (talk place earlier) f.broken g parts.1 keeps.2 (keeps.1 ∙ f.spelled)) refl keeps.0 tt
-    found_goes found.NotYet moved due fresh (stays, unfinished) keeps =
+    found_goes found.NotYet moved due roomy fresh (stays, unfinished) keeps =
         let parts = due_parts link due in
         let g : IsGoing (talk place earlier) link = holds (talk place earlier) link Open parts.0 kept in
         subst (λ v. GoesFrom did answers over place p v link₂ 0 0 moved (λ t. ⊤) start first earlier) (sym stays.same_handler)
@@ -165,10 +174,11 @@ module _ {P H : Type 0} (did : P → Step → P → Type 0) (answers : Answering
         })) keeps.0 tt)
 
     -- the same whether a message was due or not
-    pub goes_answered : (moved : Bool) → (talk place earlier).replies ≡ 0 → HasAnswered answers over h h₂ link link₂ moved
-        → GoesFrom did answers over place p h₂ link₂ 0 0 moved (λ t. ⊤) start first earlier
-    goes_answered moved fresh (inr (due, f, finds, keeps)) = found_goes f moved due fresh finds keeps
-    goes_answered moved fresh (inl (none, still, same, unmoved)) =
+    pub goes_answered : (is_full moved : Bool) → (is_full ≡ false → is_due link ≡ true → untaken earlier < room) → (talk place earlier).replies ≡ 0
+        → HasAnswered answers over h h₂ is_full link link₂ moved → GoesFrom did answers over place p h₂ link₂ 0 0 moved (λ t. ⊤) start first earlier
+    goes_answered is_full moved roomy fresh (inr (due, unheld, f, finds, keeps)) =
+        found_goes f moved due (λ asks. roomy (not_full is_full (is_due link) (asks_for_listing link.said) unheld due asks) due) fresh finds keeps
+    goes_answered is_full moved roomy fresh (inl (none, still, same, unmoved)) =
         subst (λ v. GoesFrom did answers over place p v link₂ 0 0 moved (λ t. ⊤) start first earlier) (sym same)
         (goes_still did answers over place below start first earlier p h runs link₂ 0 moved (λ t. ⊤) (subst (λ l. Holds (talk place earlier) l) (sym still) kept) unmoved tt)
 
@@ -196,7 +206,7 @@ module _ {P H : Type 0} (did : P → Step → P → Type 0) (answers : Answering
     ended_goes Ended is (inr (has, some, owes)) =
         let s : HasSaidAll (talk place earlier) link = holds (talk place earlier) link Ended is kept in
         goes_by did answers over place below start first earlier (Refused BadHttp) p h link₂ 0 0 moved (λ t. ⊤) runs.right runs.happens runs.answered
-        (record { rest = link.said; goes_on = s.going.goes_on; some = some_bytes link.said some; fails = inr (s.part.none, s.ended) })
+        (record { rest = link.said; goes_on = s.going.goes_on; some = some_bytes link.said some; fails = inr (s.part.none, s.ended) }) tt
         (refused_holds link link₂ (talk place earlier) BadHttp s.going s.nothing owes.stage_is owes.pending) refl has tt
 
     -- the same at the connection's own stage
@@ -225,14 +235,31 @@ ending_not_due link e = by (is_due link) refl
     by true is = absurd (let never = sym (due_parts link is).0 ∙ e in cc)
     by false is = is
 
--- where nothing was answered, nothing is due
-answered_none : {H : Type 0} (answers : Answering H) (over : H → Bool) (h h₂ : H) (link link₂ : Link) (moved : Bool) → HasAnswered answers over h h₂ link link₂ moved
-    → moved ≡ false → is_due link₂ ≡ false
-answered_none answers over h h₂ link link₂ moved (inl (none, still, same, is)) unmoved = ap is_due still ∙ none
-answered_none answers over h h₂ link link₂ moved (inr (due, found.Answered bytes, finds, keeps)) unmoved = absurd (let never = sym keeps.0 ∙ unmoved in cc)
-answered_none answers over h h₂ link link₂ moved (inr (due, found.Last bytes, finds, keeps)) unmoved = absurd (let never = sym keeps.0 ∙ unmoved in cc)
-answered_none answers over h h₂ link link₂ moved (inr (due, found.Refused bytes, finds, keeps)) unmoved = absurd (let never = sym keeps.0 ∙ unmoved in cc)
-answered_none answers over h h₂ link link₂ moved (inr (due, found.NotYet, finds, keeps)) unmoved = awaited_not_due link₂ keeps.3
+-- where nothing was answered, nothing is due, or the connection is to be held and was left alone
+answered_none : {H : Type 0} (answers : Answering H) (over : H → Bool) (h h₂ : H) (is_full : Bool) (link link₂ : Link) (moved : Bool) → HasAnswered answers over h h₂ is_full link link₂ moved
+    → moved ≡ false → (is_due link₂ ≡ false) ⊎ ((is_held is_full link ≡ true) × (link₂ ≡ link))
+answered_none answers over h h₂ is_full link link₂ moved (inl (inl none, still, same, is)) unmoved = inl (ap is_due still ∙ none)
+answered_none answers over h h₂ is_full link link₂ moved (inl (inr wants, still, same, is)) unmoved = inr (wants, still)
+answered_none answers over h h₂ is_full link link₂ moved (inr (due, unheld, found.Answered bytes, finds, keeps)) unmoved = absurd (let never = sym keeps.0 ∙ unmoved in cc)
+answered_none answers over h h₂ is_full link link₂ moved (inr (due, unheld, found.Last bytes, finds, keeps)) unmoved = absurd (let never = sym keeps.0 ∙ unmoved in cc)
+answered_none answers over h h₂ is_full link link₂ moved (inr (due, unheld, found.Refused bytes, finds, keeps)) unmoved = absurd (let never = sym keeps.0 ∙ unmoved in cc)
+answered_none answers over h h₂ is_full link link₂ moved (inr (due, unheld, found.NotYet, finds, keeps)) unmoved = inl (awaited_not_due link₂ keeps.3)
+
+-- a connection that is to be held is due, and asks for a listing
+pub held_parts : (is_full : Bool) (link : Link) → is_held is_full link ≡ true → (is_full ≡ true) × (is_due link ≡ true) × (asks_for_listing link.said ≡ true)
+held_parts is_full link e =
+    let outer = both is_full (is_due link && asks_for_listing link.said) e in
+    let inner = both (is_due link) (asks_for_listing link.said) outer.1 in
+    (outer.0, inner.0, inner.1)
+
+-- what is due doesn't end, and where it asks for a listing nothing is awaited anew
+due_stays : (link link₂ : Link) (moved : Bool) → is_due link ≡ true → HasEnded link link₂ moved → link₂ ≡ link
+due_stays link link₂ moved due ended = (subst (λ (s : Stage). EndsAt s link link₂ moved) (due_parts link due).0 ended).1
+
+held_next : (is_full : Bool) (link link₂ : Link) → is_held is_full link ≡ true → AwaitsNext link link₂ → link₂ ≡ link
+held_next is_full link link₂ held (inl still) = still
+held_next is_full link link₂ held (inr (due, unsaid, awaited)) =
+    absurd (let asks = sym (held_parts is_full link held).2 ∙ ap asks_for_listing unsaid in cc)
 
 -- where nothing was refused, what has ended is told as ending, and nothing more is due
 ended_none : (s : Stage) (link link₂ : Link) (moved : Bool) → link.stage ≡ s → EndsAt s link link₂ moved → moved ≡ false → is_due link ≡ false
@@ -282,48 +309,104 @@ module _ {P H : Type 0} (did : P → Step → P → Type 0) (answers : Answering
     also = g.also;
   }
 
+and_false : (b : Bool) → (b && false) ≡ false
+and_false true = refl
+and_false false = refl
+
+and_true : (b : Bool) → (b && true) ≡ b
+and_true true = refl
+and_true false = refl
+
+or_false : (b : Bool) → (b || false) ≡ b
+or_false true = refl
+or_false false = refl
+
+-- what is kept of a connection that is held is what became of it
+held_still : (t : Talk) (link : Link) → link.stage ≡ Open → IsGoing t link → Holds (acted Held t) link
+held_still t link is g = held (acted Held t) link Open is (record {
+  is_open = g.is_open;
+  goes_on = record { reads = g.goes_on.reads; going = g.goes_on.going; below = g.goes_on.below; unrefused = g.goes_on.unrefused };
+  counted = g.counted;
+  owes = g.owes;
+  awaited = g.awaited;
+})
+
+-- and of one that failed
+failed_holds : (t : Talk) (link : Link) → link.stage ≡ Free → Holds (acted Failed t) link
+failed_holds t link is = held (acted Failed t) link Free is refl
+
 module _ {P H : Type 0} (did : P → Step → P → Type 0) (answers : Answering H) (over : H → Bool) (place : ℕ) (start : P) (first : H) (earlier : List Step)
-    (p : P) (h h₂ : H) (l₀ l₁ l₂ l₃ l₄ l₅ l₆ : Link) (c a r w e d : Bool) (before : Talk)
-    (answered : HasAnswered answers over h h₂ l₀ l₁ a) (refused : HasEnded l₁ l₂ r) (written : w ≡ false → l₃ ≡ l₂) (left : e ≡ false → l₄ ≡ l₃)
+    (p : P) (h h₂ : H) (is_full : Bool) (l₀ l₁ l₂ l₃ l₄ l₅ l₆ : Link) (c a r w e d : Bool) (before : Talk)
+    (answered : HasAnswered answers over h h₂ is_full l₀ l₁ a) (refused : HasEnded l₁ l₂ r) (written : w ≡ false → l₃ ≡ l₂) (left : e ≡ false → l₄ ≡ l₃)
     (gone : e ≡ false → is_done l₃ ≡ false) (next : AwaitsNext l₄ l₅) (read : d ≡ false → l₆ ≡ l₅)
     (g : GoesFrom did answers over place p h₂ l₆ 0 0 (((((c || a) || r) || w) || e) || d) (HasTaken l₅ d before) start first earlier) where
-  -- where nothing moved, there is nothing to do for the connection
-  quietly : (((((c || a) || r) || w) || e) || d) ≡ false → IsQuiet (talk place g.later)
-  quietly none =
-      let five = neither ((((c || a) || r) || w) || e) d none in
-      let four = neither (((c || a) || r) || w) e five.0 in
-      let three = neither ((c || a) || r) w four.0 in
-      let two = neither (c || a) r three.0 in
-      let one = neither c a two.0 in
-      let settled = ended_none l₁.stage l₁ l₂ r refl refused two.1 (answered_none answers over h h₂ l₀ l₁ a answered one.1) in
-      let as_ended : l₄ ≡ l₂ = left four.1 ∙ written three.1 in
-      let as_left : l₆ ≡ l₄ = read five.1 ∙ next_still l₄ l₅ next (ap is_due as_ended ∙ settled.1) in
-      quiet (talk place g.later) l₆ g.holds (λ is. settled.0 (sym (ap (λ l. l.stage) (as_left ∙ as_ended)) ∙ is)) (ap is_due (as_left ∙ as_ended) ∙ settled.1)
-      (ap is_done (as_left ∙ left four.1) ∙ gone four.1) (λ waits. g.also.0 five.1 (sym (ap awaits (read five.1)) ∙ waits))
+  module _ (none : (((((c || a) || r) || w) || e) || d) ≡ false) where
+    abbrev five : (((((c || a) || r) || w) || e) ≡ false) × (d ≡ false)
+    five = neither ((((c || a) || r) || w) || e) d none
+
+    abbrev four : ((((c || a) || r) || w) ≡ false) × (e ≡ false)
+    four = neither (((c || a) || r) || w) e five.0
+
+    abbrev three : (((c || a) || r) ≡ false) × (w ≡ false)
+    three = neither ((c || a) || r) w four.0
+
+    abbrev two : ((c || a) ≡ false) × (r ≡ false)
+    two = neither (c || a) r three.0
+
+    abbrev one : (c ≡ false) × (a ≡ false)
+    one = neither c a two.0
+
+    as_ended : l₄ ≡ l₂
+    as_ended = left four.1 ∙ written three.1
+
+    -- where nothing is due, there is nothing to do for the connection
+    settled : is_due l₁ ≡ false → IsQuiet (talk place g.later)
+    settled undue =
+        let ends = ended_none l₁.stage l₁ l₂ r refl refused two.1 undue in
+        let as_left : l₆ ≡ l₄ = read five.1 ∙ next_still l₄ l₅ next (ap is_due as_ended ∙ ends.1) in
+        quiet (talk place g.later) l₆ g.holds (λ is. ends.0 (sym (ap (λ l. l.stage) (as_left ∙ as_ended)) ∙ is)) (ap is_due (as_left ∙ as_ended) ∙ ends.1)
+        (ap is_done (as_left ∙ left four.1) ∙ gone four.1) (λ waits. g.also.0 five.1 (sym (ap awaits (read five.1)) ∙ waits))
+
+    -- one that is to be held was left alone
+    left_alone : is_held is_full l₀ ≡ true → l₁ ≡ l₀ → l₆ ≡ l₀
+    left_alone held still =
+        let as_held : l₄ ≡ l₀ = as_ended ∙ due_stays l₁ l₂ r (ap is_due still ∙ (held_parts is_full l₀ held).1) refused ∙ still in
+        read five.1 ∙ held_next is_full l₄ l₅ (ap (is_held is_full) as_held ∙ held) next ∙ as_held
+
+    -- where nothing moved and it isn't to be held, there is nothing to do
+    quietly : is_held is_full l₆ ≡ false → IsQuiet (talk place g.later)
+    quietly unheld = elim (answered_none answers over h h₂ is_full l₀ l₁ a answered one.1) [
+      | inl undue ↦ settled undue
+      | inr (wants, still) ↦ absurd (let never = sym unheld ∙ (ap (is_held is_full) (left_alone wants still) ∙ wants) in cc)
+    ]
+
+    -- one that is to be held at the end was so before it was looked for
+    held_before : is_held is_full l₆ ≡ true → l₆ ≡ l₀
+    held_before held = elim (answered_none answers over h h₂ is_full l₀ l₁ a answered one.1) [
+      | inl undue ↦ absurd (
+          let ends = ended_none l₁.stage l₁ l₂ r refl refused two.1 undue in
+          let as_left : l₆ ≡ l₄ = read five.1 ∙ next_still l₄ l₅ next (ap is_due as_ended ∙ ends.1) in
+          let never = sym (ap is_due (as_left ∙ as_ended) ∙ ends.1) ∙ (held_parts is_full l₆ held).1 in cc)
+      | inr (was, still) ↦ left_alone was still
+    ]
 
   -- so it is where its next message is awaited, and nothing of it was there to be read
   dryly : d ≡ false → awaits l₆ ≡ true → IsQuiet (talk place g.later)
   dryly unread waits =
       let parts = awaits_parts l₆ waits in
       let going : IsGoing (talk place g.later) l₆ = holds (talk place g.later) l₆ Open parts.0 g.holds in
-      inr (inr ((l₆.said, going.goes_on, going.awaited parts.2), g.also.0 unread (sym (ap awaits (read unread)) ∙ waits)))
+      inr (inr (inl ((l₆.said, going.goes_on, going.awaited parts.2), g.also.0 unread (sym (ap awaits (read unread)) ∙ waits))))
 
-  -- something moved there, or there is nothing to do
-  attended_by : (m d₂ waits : Bool) → (((((c || a) || r) || w) || e) || d) ≡ m → d ≡ d₂ → awaits l₆ ≡ waits → IsAttended (m && (d₂ || not waits)) (talk place g.later)
-  attended_by false d₂ waits is read_is waits_is = inr (quietly is)
-  attended_by true true waits is read_is waits_is = inl (refl, g.has_moved is)
-  attended_by true false true is read_is waits_is = inr (dryly read_is waits_is)
-  attended_by true false false is read_is waits_is = inl (refl, g.has_moved is)
-
-  -- what is both is the first
-  first_of : (m b : Bool) → (m && b) ≡ true → m ≡ true
-  first_of true b both = refl
-  first_of false b both = absurd cc
+  -- where something moved, there may be more to do, or there is nothing
+  attended_by : (d₂ waits : Bool) → (((((c || a) || r) || w) || e) || d) ≡ true → d ≡ d₂ → awaits l₆ ≡ waits → IsAttended (d₂ || not waits) (talk place g.later)
+  attended_by true waits is read_is waits_is = inl (refl, g.has_moved is)
+  attended_by false true is read_is waits_is = inr (dryly read_is waits_is)
+  attended_by false false is read_is waits_is = inl (refl, g.has_moved is)
 
   -- the history goes on so
-  pub attended : (waits : Bool) → waits ≡ awaits l₆
-      → GoesFrom did answers over place p h₂ l₆ 0 0 ((((((c || a) || r) || w) || e) || d) && (d || not waits)) (IsAttended ((((((c || a) || r) || w) || e) || d) && (d || not waits))) start first earlier
-  attended waits waits_is = record {
+  pub attended : (waits : Bool) → (((((c || a) || r) || w) || e) || d) ≡ true → waits ≡ awaits l₆
+      → GoesFrom did answers over place p h₂ l₆ 0 0 (d || not waits) (IsAttended (d || not waits)) start first earlier
+  attended waits is waits_is = record {
     later = g.later;
     runs = g.runs;
     holds = g.holds;
@@ -331,9 +414,74 @@ module _ {P H : Type 0} (did : P → Step → P → Type 0) (answers : Answering
     left_is = g.left_is;
     looks_are = g.looks_are;
     stays_moved = g.stays_moved;
-    has_moved = λ has. g.has_moved (first_of (((((c || a) || r) || w) || e) || d) (d || not waits) has);
-    also = attended_by (((((c || a) || r) || w) || e) || d) d waits refl refl (sym waits_is);
+    has_moved = λ has. g.has_moved is;
+    also = attended_by d waits is refl (sym waits_is);
   }
+
+  abbrev now : Talk
+  now = talk place g.later
+
+  -- a connection that is to be held goes on
+  going_held : is_held is_full l₆ ≡ true → IsGoing now l₆
+  going_held held = holds now l₆ Open (due_parts l₆ (held_parts is_full l₆ held).1).0 g.holds
+
+  module _ (below : place < 64) (old : Link) (was : Holds (talk place earlier) old) (came : c ≡ false → l₀ ≡ old) (known : is_full ≡ nat_le room (untaken earlier))
+      (p₂ : P) (l₇ : Link) (f : Bool) where
+    module _ (none : (((((c || a) || r) || w) || e) || d) ≡ false) where
+      -- there is no room for one that is held
+      full_still : is_held is_full l₆ ≡ true → room ≤ untaken g.later
+      full_still held =
+          let parts = held_parts is_full l₆ held in
+          let same : l₆ ≡ old = held_before none held ∙ came (one none).0 in
+          let taken = none_untaken (talk place earlier) old was (ap (λ l. l.pending) (sym same) ∙ (due_parts l₆ parts.1).1) in
+          let less = others_less place earlier g.later (λ k n. sym (g.others k n)) taken in
+          let gone = room_gone (untaken earlier) is_full known parts.0 in
+          omega (arith, less, gone)
+
+      -- the history goes on by what becomes of one that may be held
+      held_by : HoldsUp did place p p₂ l₆ l₇ is_full f → GoesFrom did answers over place p₂ h₂ l₇ 0 0 f (IsAttended f) start first g.later
+      held_by (inl (unheld, (same, still, unmoved))) =
+          subst (λ v. GoesFrom did answers over place v h₂ l₇ 0 0 f (IsAttended f) start first g.later) (sym same)
+          (goes_still did answers over place below start first g.later p h₂ g.runs l₇ 0 f (IsAttended f) (subst (λ l. Holds now l) (sym still) g.holds) unmoved
+          (inr (quietly none unheld)))
+      held_by (inr (wants, inl (happens, still, unmoved))) =
+          let going = going_held wants in
+          let parts = held_parts is_full l₆ wants in
+          goes_by did answers over place below start first g.later Held p₂ h₂ l₇ 0 0 f (IsAttended f) g.runs.right (p, g.runs.happens, happens) g.runs.answered
+          (l₆.said, going.goes_on, parts.2) (full_still wants)
+          (subst (λ l. Holds (acted Held now) l) (sym still) (held_still now l₆ (due_parts l₆ parts.1).0 going)) refl unmoved (inr (inr (inr (inr refl))))
+      held_by (inr (wants, inr (happens, unused, moved))) =
+          goes_by did answers over place below start first g.later Failed p₂ h₂ l₇ 0 0 f (IsAttended f) g.runs.right (p, g.runs.happens, happens) g.runs.answered
+          (going_held wants).is_open tt (failed_holds now l₇ unused.stage_is) refl moved (inl (moved, refl))
+
+      -- so does the whole turn
+      held_turn : HoldsUp did place p p₂ l₆ l₇ is_full f → GoesFrom did answers over place p₂ h₂ l₇ 0 0 f (IsAttended f) start first earlier
+      held_turn holds_up =
+          let whole = goes_both did answers over place start first earlier p p₂ h₂ h₂ l₆ l₇ (((((c || a) || r) || w) || e) || d) f (HasTaken l₅ d before) (IsAttended f) g (held_by holds_up) in
+          subst (λ (m : Bool). GoesFrom did answers over place p₂ h₂ l₇ 0 0 (m || f) (IsAttended f) start first earlier) none whole
+
+    -- where something moved nothing is held
+    moved_turn : (waits : Bool) → (((((c || a) || r) || w) || e) || d) ≡ true → HoldsUp did place p p₂ l₆ l₇ false f → waits ≡ awaits l₇
+        → GoesFrom did answers over place p₂ h₂ l₇ 0 0 (f || (d || not waits)) (IsAttended (f || (d || not waits))) start first earlier
+    moved_turn waits has (inl (unheld, (same, still, unmoved))) waits_is =
+        let whole = attended waits has (waits_is ∙ ap awaits still) in
+        let there = subst (λ l. GoesFrom did answers over place p h₂ l 0 0 (d || not waits) (IsAttended (d || not waits)) start first earlier) (sym still) whole in
+        let here = subst (λ v. GoesFrom did answers over place v h₂ l₇ 0 0 (d || not waits) (IsAttended (d || not waits)) start first earlier) (sym same) there in
+        subst (λ (b : Bool). GoesFrom did answers over place p₂ h₂ l₇ 0 0 (b || (d || not waits)) (IsAttended (b || (d || not waits))) start first earlier) (sym unmoved) here
+    moved_turn waits has (inr (wants, other)) waits_is = absurd cc
+
+    -- the history goes on by the whole turn
+    pub turned : (waits : Bool) → HoldsUp did place p p₂ l₆ l₇ (is_full && not (((((c || a) || r) || w) || e) || d)) f → waits ≡ awaits l₇
+        → GoesFrom did answers over place p₂ h₂ l₇ 0 0 (f || ((((((c || a) || r) || w) || e) || d) && (d || not waits)))
+        (IsAttended (f || ((((((c || a) || r) || w) || e) || d) && (d || not waits)))) start first earlier
+    turned waits holds_up waits_is = by (((((c || a) || r) || w) || e) || d) refl holds_up
+      where
+        by : (m : Bool) → (((((c || a) || r) || w) || e) || d) ≡ m → HoldsUp did place p p₂ l₆ l₇ (is_full && not m) f
+            → GoesFrom did answers over place p₂ h₂ l₇ 0 0 (f || (m && (d || not waits))) (IsAttended (f || (m && (d || not waits)))) start first earlier
+        by true has up = moved_turn waits has (subst (λ (b : Bool). HoldsUp did place p p₂ l₆ l₇ b f) (and_false is_full) up) waits_is
+        by false none up =
+            subst (λ (b : Bool). GoesFrom did answers over place p₂ h₂ l₇ 0 0 b (IsAttended b) start first earlier) (sym (or_false f))
+            (held_turn none (subst (λ (b : Bool). HoldsUp did place p p₂ l₆ l₇ b f) (and_true is_full) up))
 
 -- ---- a free place
 
@@ -357,7 +505,7 @@ module _ {P H : Type 0} (did : P → Step → P → Type 0) (answers : Answering
   -- the history goes on by whoever came or didn't
   pub admitted : Admits did place p p₂ link link₂ left left₂ moved → GoesFrom did answers over place p₂ h link₂ left left₂ moved (IsAttended moved) start first earlier
   admitted (inl (happens, unused, one, has)) =
-      goes_by did answers over place below start first earlier Came p₂ h link₂ left left₂ moved (IsAttended moved) runs.right (p, runs.happens, happens) runs.answered closed
+      goes_by did answers over place below start first earlier Came p₂ h link₂ left left₂ moved (IsAttended moved) runs.right (p, runs.happens, happens) runs.answered closed tt
       (admitted_holds (talk place earlier) link₂ unused) (omega (arith, one)) has (inl (has, refl))
   admitted (inr (inl (happens, still, one, is))) = record {
     later = Missed ∷ earlier;
@@ -371,7 +519,7 @@ module _ {P H : Type 0} (did : P → Step → P → Type 0) (answers : Answering
     also = inr (inl closed);
   }
   admitted (inr (inr (inl (happens, still, same, is)))) =
-      goes_by did answers over place below start first earlier Waits p₂ h link₂ left left₂ moved (IsAttended moved) runs.right (p, runs.happens, happens) runs.answered tt
+      goes_by did answers over place below start first earlier Waits p₂ h link₂ left left₂ moved (IsAttended moved) runs.right (p, runs.happens, happens) runs.answered tt tt
       (subst (λ l. Holds (talk place earlier) l) (sym still) kept) (omega (arith, same)) is (inr (inl closed))
   admitted (inr (inr (inr ((same_peers, still, is), same)))) =
       subst (λ n. GoesFrom did answers over place p₂ h link₂ left n moved (IsAttended moved) start first earlier) (sym same)

@@ -4,7 +4,7 @@ use Rattle.std.proofs.lemmas.Bool.{eq-eqb}
 use Rattle.std.specs.Prelude.{⊤, if◌then◌else◌}
 use Rattle.fax_http.specs.Serving.{Answering}
 use Rattle.fax_net.specs.Deeds.{Acts, Does, TakesIn, is_deed, moves}
-use Rattle.fax_net.specs.History.{Act, Answered, AreAnswered, At, Came, Dry, Ended, Failed, Fits, Happens, IsRight, Left, Refused, Said, Step, Talk, Took, Waits, acted, comings, talk}
+use Rattle.fax_net.specs.History.{Act, Answered, AreAnswered, At, Came, Dry, Ended, Failed, Fits, Happens, HasRoom, Held, IsRight, Left, Refused, Said, Step, Talk, Took, Waits, acted, comings, talk}
 use Rattle.fax_net.specs.Link.{Holds, awaits}
 use Rattle.fax_net.specs.Many.{GoesFrom, Runs}
 use Rattle.fax_net.specs.declared.link.Link.{Link}
@@ -32,6 +32,7 @@ still_moved (Took bytes) t e = refl
 still_moved Waits t e = e
 still_moved Failed t e = refl
 still_moved Left t e = refl
+still_moved Held t e = e
 still_moved (Answered turn is_over) t e = refl
 still_moved (Refused broken) t e = refl
 
@@ -45,6 +46,7 @@ has_moved (Took bytes) t e = refl
 has_moved Waits t e = absurd cc
 has_moved Failed t e = refl
 has_moved Left t e = refl
+has_moved Held t e = absurd cc
 has_moved (Answered turn is_over) t e = refl
 has_moved (Refused broken) t e = refl
 
@@ -60,6 +62,7 @@ replies_deed (Took bytes) t e = refl
 replies_deed Waits t e = refl
 replies_deed Failed t e = refl
 replies_deed Left t e = refl
+replies_deed Held t e = absurd cc
 replies_deed (Answered turn is_over) t e = absurd cc
 replies_deed (Refused broken) t e = absurd cc
 
@@ -78,6 +81,7 @@ module _ {P : Type 0} (did : P → Step → P → Type 0) (start p p₂ : P) (ea
   happens_deed Waits e h d = (p, h, d)
   happens_deed Failed e h d = (p, h, d)
   happens_deed Left e h d = (p, h, d)
+  happens_deed Held e h d = absurd cc
   happens_deed (Answered turn is_over) e h d = absurd cc
   happens_deed (Refused broken) e h d = absurd cc
 
@@ -92,6 +96,7 @@ answered_deed answers over first h earlier place (Took bytes) e a = a
 answered_deed answers over first h earlier place Waits e a = a
 answered_deed answers over first h earlier place Failed e a = a
 answered_deed answers over first h earlier place Left e a = a
+answered_deed answers over first h earlier place Held e a = absurd cc
 answered_deed answers over first h earlier place (Answered turn is_over) e a = absurd cc
 answered_deed answers over first h earlier place (Refused broken) e a = absurd cc
 
@@ -105,8 +110,23 @@ comings_deed earlier place (Took bytes) e = refl
 comings_deed earlier place Waits e = refl
 comings_deed earlier place Failed e = refl
 comings_deed earlier place Left e = refl
+comings_deed earlier place Held e = absurd cc
 comings_deed earlier place (Answered turn is_over) e = absurd cc
 comings_deed earlier place (Refused broken) e = absurd cc
+
+-- a deed needs no room
+room_deed : (earlier : List Step) (place : ℕ) (act : Act) → is_deed act ≡ true → HasRoom act place earlier
+room_deed earlier place Came e = absurd cc
+room_deed earlier place (Said bytes) e = tt
+room_deed earlier place Dry e = tt
+room_deed earlier place Ended e = tt
+room_deed earlier place (Took bytes) e = tt
+room_deed earlier place Waits e = tt
+room_deed earlier place Failed e = tt
+room_deed earlier place Left e = tt
+room_deed earlier place Held e = absurd cc
+room_deed earlier place (Answered turn is_over) e = absurd cc
+room_deed earlier place (Refused broken) e = absurd cc
 
 -- ---- one place
 
@@ -114,12 +134,12 @@ module _ {P H : Type 0} (did : P → Step → P → Type 0) (answers : Answering
   -- one act more
   pub goes_by : (act : Act) (p₂ : P) (h₂ : H) (link₂ : Link) (left left₂ : ℕ) (moved : Bool) (Wanted : Talk → Type 0)
       → IsRight earlier → Happens did start (At place act ∷ earlier) p₂ → AreAnswered answers over first (At place act ∷ earlier) h₂
-      → Fits act (talk place earlier) → Holds (acted act (talk place earlier)) link₂ → comings (At place act ∷ earlier) + left₂ ≡ comings earlier + left
+      → Fits act (talk place earlier) → HasRoom act place earlier → Holds (acted act (talk place earlier)) link₂ → comings (At place act ∷ earlier) + left₂ ≡ comings earlier + left
       → moved ≡ moves act → Wanted (acted act (talk place earlier))
       → GoesFrom did answers over place p₂ h₂ link₂ left left₂ moved Wanted start first earlier
-  goes_by act p₂ h₂ link₂ left left₂ moved Wanted right happens answered fits holds came moved_is wanted = record {
+  goes_by act p₂ h₂ link₂ left left₂ moved Wanted right happens answered fits has_room holds came moved_is wanted = record {
     later = At place act ∷ earlier;
-    runs = record { happens = happens; answered = answered; right = (right, below, fits) };
+    runs = record { happens = happens; answered = answered; right = (right, below, fits, has_room) };
     holds = subst (λ t. Holds t link₂) (sym (talk_here place act earlier)) holds;
     others = λ k n. talk_there place k act earlier n;
     left_is = came;
@@ -151,7 +171,7 @@ module _ {P H : Type 0} (did : P → Step → P → Type 0) (answers : Answering
     goes_deed p₂ link link₂ act moved Wanted acts holds wanted =
         let fits = acts.fits (talk place earlier) holds in
         goes_by act p₂ h link₂ 0 0 moved Wanted runs.right (happens_deed did start p p₂ earlier place act acts.is_deed runs.happens acts.happens)
-        (answered_deed answers over first h earlier place act acts.is_deed runs.answered) fits.0 fits.1
+        (answered_deed answers over first h earlier place act acts.is_deed runs.answered) fits.0 (room_deed earlier place act acts.is_deed) fits.1
         (ap (λ n. n + 0) (comings_deed earlier place act acts.is_deed)) acts.moved_is wanted
 
     -- a deed, or nothing

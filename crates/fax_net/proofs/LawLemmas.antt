@@ -4,7 +4,7 @@ use Rattle.std.proofs.lemmas.Bool.{eqb-true}
 use Rattle.std.specs.Prelude.{if◌then◌else◌}
 use Rattle.fax_http.specs.Conversation.{failure_of, spelled_turn}
 use Rattle.fax_http.proofs.ServingLemmas.{length_one_more, reads_more, reads_one_more}
-use Rattle.fax_net.specs.History.{Act, Answered, At, Came, Dry, Ended, Failed, Fits, Left, Looked, Missed, Refused, Said, Step, Talk, Took, Waits, acted, talk}
+use Rattle.fax_net.specs.History.{Act, Answered, At, Came, Dry, Ended, Failed, Fits, Held, Left, Looked, Missed, Refused, Said, Step, Talk, Took, Waits, acted, talk}
 use Rattle.fax_net.specs.Laws.{EachItsOwn, IsItsOwn}
 use Rattle.fax_net.proofs.ConversingLemmas.{owed_more, owed_refused}
 
@@ -32,6 +32,7 @@ acted_own (Took bytes) t (left, owes) own = record {
 acted_own Waits t fits own = own
 acted_own Failed t fits own = record { rest = own.rest; reads = own.reads; going = own.going; within = own.within; left = own.left; owes = own.owes }
 acted_own Left t fits own = record { rest = own.rest; reads = own.reads; going = own.going; within = own.within; left = own.left; owes = own.owes }
+acted_own Held t fits own = record { rest = own.rest; reads = own.reads; going = own.going; within = own.within; left = own.left; owes = own.owes }
 acted_own (Answered turn is_over) t fits own = record {
   rest = fits.next;
   reads = reads_one_more t.said t.turns turn fits.rest fits.next fits.goes_on.reads fits.begins;
@@ -64,7 +65,7 @@ step_own other place act earlier fits own = by (nat_eq other place) refl
 -- what each connection gets is its own, at each place of a history that fits
 pub each_its_own : EachItsOwn
 each_its_own [] place right = record { rest = []; reads = refl; going = inl refl; within = omega arith; left = []; owes = refl }
-each_its_own (At other act ∷ earlier) place (right, below, fits) = step_own other place act earlier fits (each_its_own earlier place right)
+each_its_own (At other act ∷ earlier) place (right, below, fits, has_room) = step_own other place act earlier fits (each_its_own earlier place right)
 each_its_own (Missed ∷ earlier) place right = each_its_own earlier place right
 each_its_own (Looked is_busy ∷ earlier) place (right, attended) =
     let own = each_its_own earlier place right in

@@ -5,5 +5,6 @@ mod LinkLemmas
 mod ListLemmas
 mod ListeningLemmas
 mod ManyLemmas
+mod RoomLemmas
 mod RowsLines
 mod SendfaxLemmas

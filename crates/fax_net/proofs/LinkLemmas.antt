@@ -25,6 +25,13 @@ ending_is Open e = absurd cc
 ending_is Ended e = absurd cc
 ending_is Ending e = refl
 
+-- a stage that isn't free is taken
+pub taken_is : (s : Stage) → ¬ (s ≡ Free) → is_taken s ≡ true
+taken_is Free not = absurd (not refl)
+taken_is Open not = refl
+taken_is Ended not = refl
+taken_is Ending not = refl
+
 -- where a message is due, the link is open, owes nothing and awaits nothing
 pub due_parts : (link : Link) → is_due link ≡ true → (link.stage ≡ Open) × (link.pending ≡ []) × (link.is_awaited ≡ false)
 due_parts link e =
@@ -140,7 +147,7 @@ quiet t link h not_ended not_due not_done dry = by link.stage (is_none link.pend
     by Open false a is none waits =
         let g : IsGoing t link = holds t link Open is h in inr (inl (record { left = link.pending; some = some_is link.pending none; owes = g.owes }))
     by Open true true is none waits =
-        let g : IsGoing t link = holds t link Open is h in inr (inr ((link.said, g.goes_on, g.awaited waits), dry (rw is (rw none (rw waits refl)))))
+        let g : IsGoing t link = holds t link Open is h in inr (inr (inl ((link.said, g.goes_on, g.awaited waits), dry (rw is (rw none (rw waits refl))))))
     by Open true false is none waits =
         absurd (let no : is_due link ≡ true = rw is (rw none (rw waits refl)) in cc)
     by Ending false a is none waits =

@@ -1,6 +1,6 @@
 -- Lists, and tests.
-use Rattle.std.proofs.Common.{◌≡◌, ℕ, ◌<◌, Bool, true, false, not, ◌&&◌, ◌==◌, List, [], ◌∷◌, ◌++◌, length, nat_eq, refl, ap, sym, ◌∙◌, arith}
-use Rattle.std.proofs.lemmas.Bool.{eqb-true}
+use Rattle.std.proofs.Common.{◌≡◌, ◌⊎◌, inl, inr, ℕ, ◌<◌, Bool, true, false, not, ◌&&◌, ◌==◌, List, [], ◌∷◌, ◌++◌, length, nat_eq, refl, ap, sym, ◌∙◌, arith}
+use Rattle.std.proofs.lemmas.Bool.{eq-eqb, eqb-true}
 use Rattle.fax_net.specs.Lists.{is_none}
 
 -- numbers that differ don't test as equal
@@ -10,6 +10,14 @@ unlike a b n = by (nat_eq a b) refl
     by : (t : Bool) → nat_eq a b ≡ t → nat_eq a b ≡ false
     by true e = absurd (n (eqb-true a b e))
     by false e = e
+
+-- two numbers are the same, or not
+pub same_or : (a b : ℕ) → (a ≡ b) ⊎ ¬ (a ≡ b)
+same_or a b = by (nat_eq a b) refl
+  where
+    by : (t : Bool) → nat_eq a b ≡ t → (a ≡ b) ⊎ ¬ (a ≡ b)
+    by true e = inl (eqb-true a b e)
+    by false e = inr (λ is. absurd (let never = sym e ∙ ap (nat_eq a) (sym is) in let again = eq-eqb a a refl in cc))
 
 -- bytes that test as none are none
 pub none_is : (xs : List ℕ) → is_none xs ≡ true → xs ≡ []

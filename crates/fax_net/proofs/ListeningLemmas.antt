@@ -4,7 +4,7 @@ use Rattle.fax_http.specs.Device.{Put}
 use Rattle.fax_http.specs.declared.device.Watched.{Watched}
 use Rattle.fax_http.specs.Serving.{Answering, Answers}
 use Rattle.fax_http.proofs.ServingLemmas.{answers_one_more}
-use Rattle.fax_net.specs.History.{Answered, AreAnswered, At, Came, Dry, Ended, Failed, IsNeverOver, IsOverAtLast, Left, Looked, Missed, Refused, Said, Step, Took, Waits, turns_of}
+use Rattle.fax_net.specs.History.{Answered, AreAnswered, At, Came, Dry, Ended, Failed, Held, IsNeverOver, IsOverAtLast, Left, Looked, Missed, Refused, Said, Step, Took, Waits, turns_of}
 use Rattle.fax_net.specs.Listening.{HasListened, listening}
 use Rattle.fax_net.specs.Many.{ServesMany}
 use Rattle.fax_net.specs.declared.sockets.Sockets.{Sockets}
@@ -23,6 +23,7 @@ module _ {H : Type 0} (answers : Answering H) (over : H → Bool) (old : H) wher
   answers_of (At place Waits ∷ earlier) new a = answers_of earlier new a
   answers_of (At place Failed ∷ earlier) new a = answers_of earlier new a
   answers_of (At place Left ∷ earlier) new a = answers_of earlier new a
+  answers_of (At place Held ∷ earlier) new a = answers_of earlier new a
   answers_of (At place (Refused broken) ∷ earlier) new a = answers_of earlier new a
   answers_of (Missed ∷ earlier) new a = answers_of earlier new a
   answers_of (Looked is_busy ∷ earlier) new a = answers_of earlier new a
@@ -39,6 +40,7 @@ module _ {H : Type 0} (answers : Answering H) (over : H → Bool) (old : H) wher
   never_over (At place Waits ∷ earlier) new a none = never_over earlier new a none
   never_over (At place Failed ∷ earlier) new a none = never_over earlier new a none
   never_over (At place Left ∷ earlier) new a none = never_over earlier new a none
+  never_over (At place Held ∷ earlier) new a none = never_over earlier new a none
   never_over (At place (Refused broken) ∷ earlier) new a none = never_over earlier new a none
   never_over (Missed ∷ earlier) new a none = never_over earlier new a none
   never_over (Looked is_busy ∷ earlier) new a none = never_over earlier new a none
@@ -55,6 +57,7 @@ module _ {H : Type 0} (answers : Answering H) (over : H → Bool) (old : H) wher
   over_at_last (At place Waits ∷ earlier) new a = over_at_last earlier new a
   over_at_last (At place Failed ∷ earlier) new a = over_at_last earlier new a
   over_at_last (At place Left ∷ earlier) new a = over_at_last earlier new a
+  over_at_last (At place Held ∷ earlier) new a = over_at_last earlier new a
   over_at_last (At place (Refused broken) ∷ earlier) new a = over_at_last earlier new a
   over_at_last (Missed ∷ earlier) new a = over_at_last earlier new a
   over_at_last (Looked is_busy ∷ earlier) new a = over_at_last earlier new a

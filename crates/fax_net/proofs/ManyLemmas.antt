@@ -10,6 +10,7 @@ use Rattle.fax_net.specs.declared.link.Link.{Link}
 use Rattle.fax_net.specs.declared.link.Stage.{Stage}
 use Rattle.fax_net.specs.declared.link.Stage.TheVariants.{Free, Open, Ended, Ending}
 use Rattle.fax_net.proofs.LinkLemmas.{held, holds}
+use Rattle.fax_net.proofs.ListLemmas.{same_or}
 
 -- ---- a round
 
@@ -24,14 +25,6 @@ attended_behind : (a b : Bool) (t : Talk) → IsAttended b t → IsAttended (a |
 attended_behind true b t (inl (is, moved)) = inl (refl, moved)
 attended_behind true b t (inr quiet) = inr quiet
 attended_behind false b t at = at
-
--- two numbers are the same, or not
-same_or : (a b : ℕ) → (a ≡ b) ⊎ ¬ (a ≡ b)
-same_or a b = by (nat_eq a b) refl
-  where
-    by : (t : Bool) → nat_eq a b ≡ t → (a ≡ b) ⊎ ¬ (a ≡ b)
-    by true e = inl (eqb-true a b e)
-    by false e = inr (λ is. absurd (let never = sym e ∙ ap (nat_eq a) (sym is) in let again = eq-eqb a a refl in cc))
 
 -- a number below the next that isn't this one is below this one
 below_next : (k place : ℕ) → k < place + 1 → ¬ (place ≡ k) → k < place
@@ -76,13 +69,14 @@ module _ {P H : Type 0} (did : P → Step → P → Type 0) (answers : Answering
 
   module _ (place : ℕ) (peers₀ peers peers₂ : P) (handler₀ handler handler₂ : H) (links₀ links : List Link) (link₂ : Link) (left₀ left left₂ : ℕ) (is_busy moved : Bool) (d : Link) where
     -- one place more had its turn
-    pub round_next : RoundsTo place peers₀ peers handler₀ handler links₀ links left₀ left is_busy → place < 64 → length links ≡ 64
-        → Moves did answers over place peers peers₂ handler handler₂ (get_or links place d) link₂ left left₂ moved (IsAttended moved)
+    pub round_next : (Known : List Step → Type 0) → RoundsTo place peers₀ peers handler₀ handler links₀ links left₀ left is_busy → place < 64 → length links ≡ 64
+        → ((history : List Step) → AllHold history links → Known history)
+        → Moves did answers over place peers peers₂ handler handler₂ (get_or links place d) link₂ left left₂ Known moved (IsAttended moved)
         → RoundsTo (place + 1) peers₀ peers₂ handler₀ handler₂ links₀ (set links place link₂) left₀ left₂ (is_busy || moved)
-    round_next far below size moves start first earlier runs all fresh =
+    round_next Known far below size known moves start first earlier runs all fresh =
         let r = far start first earlier runs all fresh in
         let g : GoesFrom did answers over place peers₂ handler₂ link₂ left left₂ moved (IsAttended moved) start first r.later =
-        moves start first r.later r.runs below (r.holds place d (omega (arith, below, size))) (r.fresh place (omega arith)) in
+        moves start first r.later r.runs below (r.holds place d (omega (arith, below, size))) (r.fresh place (omega arith)) (known r.later r.holds) in
         record {
           later = g.later;
           runs = g.runs;
@@ -112,7 +106,7 @@ module _ {P H : Type 0} (did : P → Step → P → Type 0) (answers : Answering
         record { later = r.later; runs = r.runs; holds = r.holds; left_is = r.left_is; looks_are = r.looks_are; attended = λ on k below. r.attended k (omega (arith, below, all_of)) }
 
 -- one of them
-some_link : (links : List Link) → 0 < length links → Link
+pub some_link : (links : List Link) → 0 < length links → Link
 some_link [] some = absurd (omega (arith, some))
 some_link (link ∷ links) some = link
 

@@ -1,9 +1,9 @@
 -- What is done at one place in one call.
 use Rattle.std.specs.Prelude.{◌≡◌, ◌⊎◌, ℕ, ◌+◌, Bool, true, false}
 use Rattle.fax_net.specs.declared.link.Link.{Link}
-use Rattle.fax_net.specs.declared.link.Stage.TheVariants.{Open}
-use Rattle.fax_net.specs.History.{Act, Answered, At, Came, Dry, Ended, Failed, Fits, Left, Missed, Refused, Said, Step, Talk, Took, Waits, acted}
-use Rattle.fax_net.specs.Link.{Holds, IsUnused, awaits}
+use Rattle.fax_net.specs.declared.link.Stage.TheVariants.{Free, Open}
+use Rattle.fax_net.specs.History.{Act, Answered, At, Came, Dry, Ended, Failed, Fits, Held, Left, Missed, Refused, Said, Step, Talk, Took, Waits, acted}
+use Rattle.fax_net.specs.Link.{IsUnused, awaits, is_held, Holds}
 
 -- an act of a connection that is there
 abbrev pub is_deed : Act → Bool
@@ -15,6 +15,7 @@ is_deed (Took bytes) = true
 is_deed Waits = true
 is_deed Failed = true
 is_deed Left = true
+is_deed Held = false
 is_deed (Answered turn is_over) = false
 is_deed (Refused broken) = false
 
@@ -28,6 +29,7 @@ moves (Took bytes) = true
 moves Waits = false
 moves Failed = true
 moves Left = true
+moves Held = false
 moves (Answered turn is_over) = true
 moves (Refused broken) = true
 
@@ -50,6 +52,13 @@ module _ {P : Type 0} (did : P → Step → P → Type 0) (place : ℕ) (peers p
   -- where more is awaited, it was read
   abbrev pub TakesIn : Bool → Type 0
   TakesIn moved = ((act : Act) × Acts act moved × (moved ≡ false → act ≡ Dry)) ⊎ ((awaits link ≡ false) × Rests moved)
+
+  -- a connection that is to be held is, or its time is over and it is closed; else nothing is done
+  abbrev pub HoldsUp : Bool → Bool → Type 0
+  HoldsUp is_full moved =
+      ((is_held is_full link ≡ false) × Rests moved)
+      ⊎ ((is_held is_full link ≡ true) × ((did peers (At place Held) peers₂ × (link₂ ≡ link) × (moved ≡ false))
+      ⊎ (did peers (At place Failed) peers₂ × IsUnused link₂ Free × (moved ≡ true))))
 
   -- a connection came, or one that can't be accepted, or nobody; or no more are to come
   abbrev pub Admits : ℕ → ℕ → Bool → Type 0

@@ -1,5 +1,6 @@
 -- What a server of many connections did: its history, the newest step first. Each connection has a place, and what became of it is told by the steps at its place alone.
-use Rattle.std.specs.Prelude.{◌≡◌, ◌⊎◌, ℕ, ◌+◌, ◌<◌, Bool, true, false, List, [], ◌∷◌, ◌++◌, length, Option, Some, None, if◌then◌else◌, nat_eq, ⊤}
+use Rattle.std.specs.Prelude.{◌≡◌, ◌⊎◌, ℕ, zero, suc, ◌+◌, ◌-◌, ◌<◌, ◌≤◌, ◌==◌, ◌||◌, Bool, true, false, List, [], ◌∷◌, ◌++◌, codes, length, min, take, Option, Some, None, if◌then◌else◌, nat_eq, ⊤}
+use Rattle.std.specs.Str.{bytes_eq}
 use Rattle.fax_http.specs.declared.message.Broken.{Broken}
 use Rattle.fax_http.specs.declared.message.Broken.TheVariants.{BadHttp, TooLarge}
 use Rattle.fax_http.specs.Conversation.{EndWithLast, GoOn, Reads, Turn, failure_of, spelled_turns}
@@ -8,7 +9,7 @@ use Rattle.fax_http.specs.Serving.{Answering}
 
 -- ---- steps
 
--- what happens at a place: a connection comes, says these bytes, says nothing yet, says no more, takes these bytes, takes nothing yet, fails, or is ended; its next message is answered, or what begins none
+-- what happens at a place: a connection comes, says these bytes, says nothing yet, says no more, takes these bytes, takes nothing yet, fails, is ended, or is held since there is no room for the listing that it asks for; its next message is answered, or what begins none
 pub data Act : Type 0 where
   Came : Act
   Said : (bytes : List ℕ) → Act
@@ -18,6 +19,7 @@ pub data Act : Type 0 where
   Waits : Act
   Failed : Act
   Left : Act
+  Held : Act
   Answered : (turn : Turn) → (is_over : Bool) → Act
   Refused : (broken : Broken) → Act
 
@@ -29,7 +31,7 @@ pub data Step : Type 0 where
 
 -- ---- what became of one connection
 
--- what is known of the connection at a place: what it said and took, its messages with their replies, and what moved since the last look
+-- what is known of the connection at a place: what it said and took, its messages with their replies, and since the last look whether something moved and whether it was held
 pub record Talk : Type 0 where
   pub is_open : Bool
   pub said : List ℕ
@@ -40,6 +42,7 @@ pub record Talk : Type 0 where
   pub is_over : Bool
   pub is_dry : Bool
   pub is_moved : Bool
+  pub is_held : Bool
   pub replies : ℕ
 
 -- a place where nobody came
@@ -54,6 +57,7 @@ nobody = record {
   is_over = false;
   is_dry = false;
   is_moved = false;
+  is_held = false;
   replies = 0;
 }
 
@@ -67,12 +71,13 @@ acted (Took bytes) t = record t { took = t.took ++ bytes; is_moved = true }
 acted Waits t = t
 acted Failed t = record t { is_open = false; is_moved = true }
 acted Left t = record t { is_open = false; is_moved = true }
+acted Held t = record t { is_held = true }
 acted (Answered turn is_over) t = record t { turns = t.turns ++ turn ∷ []; is_over = is_over; is_moved = true; replies = t.replies + 1 }
 acted (Refused broken) t = record t { refused = Some broken; is_moved = true }
 
--- since a look nothing moved yet
+-- since a look nothing moved yet, and nobody was held
 abbrev pub looked : Talk → Talk
-looked t = record t { is_moved = false; replies = 0 }
+looked t = record t { is_moved = false; is_held = false; replies = 0 }
 
 -- the connection that came last to a place
 abbrev pub talk : ℕ → List Step → Talk
@@ -98,6 +103,17 @@ pub record GoesOn (t : Talk) (rest : List ℕ) : Type 0 where
   pub going : GoOn t.turns
   pub below : length t.turns < 1000
   pub unrefused : t.refused ≡ None
+
+-- its first bytes ask for a listing; empty lines before them count for nothing (RFC 9112, section 2.2)
+abbrev pub asks_for_listing : List ℕ → Bool
+asks_for_listing [] = false
+asks_for_listing (byte ∷ bytes) =
+    if byte == 13 || byte == 10 then asks_for_listing bytes
+    else bytes_eq (take (min (length (byte ∷ bytes)) 10) (byte ∷ bytes)) (codes "GET /jobs ")
+
+-- its next message asks for a listing
+abbrev pub AsksForListing : Talk → Type 0
+AsksForListing t = (rest : List ℕ) × GoesOn t rest × (asks_for_listing rest ≡ true)
 
 -- a message is looked for, and isn't there to its end
 abbrev pub Awaits : Talk → Type 0
@@ -141,6 +157,7 @@ Fits (Took bytes) t = (left : List ℕ) × (owed t ≡ t.took ++ (bytes ++ left)
 Fits Waits t = ⊤
 Fits Failed t = t.is_open ≡ true
 Fits Left t = IsDone t × (owed t ≡ t.took)
+Fits Held t = AsksForListing t
 Fits (Answered turn is_over) t = IsNext t turn
 Fits (Refused broken) t = IsBroken t broken
 
@@ -152,18 +169,45 @@ pub record IsOwing (t : Talk) : Type 0 where
   pub some : 0 < length left
   pub owes : owed t ≡ t.took ++ left
 
--- there is nothing to do for it: it is closed, or doesn't take what is owed to it, or has no whole message there, and has said no more
+-- there is nothing to do for it: it is closed, or doesn't take what is owed to it, or has no whole message there and has said no more, or is held
 abbrev pub IsQuiet : Talk → Type 0
-IsQuiet t = (t.is_open ≡ false) ⊎ (IsOwing t ⊎ (Awaits t × (t.is_dry ≡ true)))
+IsQuiet t = (t.is_open ≡ false) ⊎ (IsOwing t ⊎ ((Awaits t × (t.is_dry ≡ true)) ⊎ (t.is_held ≡ true)))
 
 -- before a busy look something moved there since the last one, or there is nothing to do; before the server waits there is nothing to do
 abbrev pub IsAttended : Bool → Talk → Type 0
 IsAttended is_busy t = ((is_busy ≡ true) × (t.is_moved ≡ true)) ⊎ IsQuiet t
 
+-- ---- room
+
+-- replies that their peers haven't taken yet have 64 MB, beside the last one
+abbrev pub room : ℕ
+room = 64000000
+
+-- how much a connection hasn't taken of what is owed to it, in bytes
+abbrev pub untaken_at : Talk → ℕ
+untaken_at t = if t.is_open then length (owed t) - length t.took else 0
+
+-- so much haven't those at so many places, from this one on
+unfoldable pub untaken_from : ℕ → ℕ → List Step → ℕ
+untaken_from place zero history = 0
+untaken_from place (suc more) history = untaken_at (talk place history) + untaken_from (suc place) more history
+
+-- so much haven't all
+abbrev pub untaken : List Step → ℕ
+untaken history = untaken_from 0 64 history
+
+-- a connection is held only where there is no room, and a request for a listing is answered only where there is
+abbrev pub HasRoom : Act → ℕ → List Step → Type 0
+HasRoom Held place earlier = room ≤ untaken earlier
+HasRoom (Answered turn is_over) place earlier = (rest : List ℕ) × GoesOn (talk place earlier) rest × (asks_for_listing rest ≡ true → untaken earlier < room)
+HasRoom act place earlier = ⊤
+
+-- ---- a history
+
 -- each step fits what came before; there are 64 places
 abbrev pub IsRight : List Step → Type 0
 IsRight [] = ⊤
-IsRight (At place act ∷ earlier) = IsRight earlier × (place < 64) × Fits act (talk place earlier)
+IsRight (At place act ∷ earlier) = IsRight earlier × (place < 64) × Fits act (talk place earlier) × HasRoom act place earlier
 IsRight (Missed ∷ earlier) = IsRight earlier
 IsRight (Looked is_busy ∷ earlier) = IsRight earlier × ((place : ℕ) → place < 64 → IsAttended is_busy (talk place earlier))
 

@@ -1,5 +1,5 @@
 -- What a server keeps of one connection is what became of it.
-use Rattle.std.specs.Prelude.{◌≡◌, ◌⊎◌, ℕ, ◌+◌, ◌<◌, ◌≤◌, Bool, ◌&&◌, true, false, not, List, [], ◌++◌, length}
+use Rattle.std.specs.Prelude.{◌≡◌, ◌⊎◌, ℕ, ◌+◌, ◌<◌, ◌≤◌, Bool, ◌&&◌, true, false, not, List, [], ◌∷◌, ◌++◌, length, if◌then◌else◌}
 use Rattle.fax_http.specs.declared.message.Broken.TheVariants.{BadHttp}
 use Rattle.fax_http.specs.declared.turn.Found.{Found}
 use Rattle.fax_http.specs.declared.turn.Found.TheVariants.{Answered, Last, Refused, NotYet}
@@ -10,7 +10,7 @@ use Rattle.fax_http.specs.Message.{IsUnfinished}
 use Rattle.fax_net.specs.declared.link.Link.{Link}
 use Rattle.fax_net.specs.declared.link.Stage.{Stage}
 use Rattle.fax_net.specs.declared.link.Stage.TheVariants.{Free, Open, Ended, Ending}
-use Rattle.fax_net.specs.History.{GoesOn, IsDone, Talk, owed}
+use Rattle.fax_net.specs.History.{GoesOn, IsDone, Talk, asks_for_listing, owed}
 use Rattle.fax_net.specs.Lists.{is_none}
 
 abbrev pub is_open : Stage → Bool
@@ -46,6 +46,19 @@ is_done link = is_ending link.stage && is_none link.pending
 -- something is to be written
 abbrev pub is_owing : Link → Bool
 is_owing link = is_taken link.stage && not (is_none link.pending)
+
+-- its next message asks for a listing, for which there is no room
+abbrev pub is_held : Bool → Link → Bool
+is_held is_full link = is_full && (is_due link && asks_for_listing link.said)
+
+-- how many bytes are to be written to it
+abbrev pub untaken_by : Link → ℕ
+untaken_by link = if is_taken link.stage then length link.pending else 0
+
+-- to all
+abbrev pub untaken_in : List Link → ℕ
+untaken_in [] = 0
+untaken_in (link ∷ links) = untaken_by link + untaken_in links
 
 -- nothing was said or written yet
 pub record IsUnused (link : Link) (stage : Stage) : Type 0 where
@@ -122,8 +135,8 @@ Keeps (Refused bytes) link link₂ moved = (moved ≡ true) × (link₂.pending 
 Keeps NotYet link link₂ moved =
     (moved ≡ false) × (link₂.pending ≡ link.pending) × (link₂.messages ≡ link.messages) × (link₂.is_awaited ≡ true) × (link₂.stage ≡ link.stage)
 
--- where its next message is due, it is looked for
-abbrev pub HasAnswered : {H : Type 0} → Answering H → (H → Bool) → H → H → Link → Link → Bool → Type 0
-HasAnswered answers over old new link link₂ moved =
-    ((is_due link ≡ false) × (link₂ ≡ link) × (new ≡ old) × (moved ≡ false))
-    ⊎ ((is_due link ≡ true) × (found : Found) × Finds answers over old new link.said link₂.said found × Keeps found link link₂ moved)
+-- where its next message is due and it isn't held, it is looked for
+abbrev pub HasAnswered : {H : Type 0} → Answering H → (H → Bool) → H → H → Bool → Link → Link → Bool → Type 0
+HasAnswered answers over old new is_full link link₂ moved =
+    (((is_due link ≡ false) ⊎ (is_held is_full link ≡ true)) × (link₂ ≡ link) × (new ≡ old) × (moved ≡ false))
+    ⊎ ((is_due link ≡ true) × (is_held is_full link ≡ false) × (found : Found) × Finds answers over old new link.said link₂.said found × Keeps found link link₂ moved)

@@ -25,11 +25,11 @@ module _ {P H : Type 0} (did : P → Step → P → Type 0) (answers : Answering
     pub has_moved : moved ≡ true → (talk place later).is_moved ≡ true
     pub also : Wanted (talk place later)
 
-  -- so it goes from any history on, where no message of the connection was answered since the last look
-  abbrev pub Moves : ℕ → P → P → H → H → Link → Link → ℕ → ℕ → Bool → (Talk → Type 0) → Type 0
-  Moves place peers peers₂ handler handler₂ link link₂ left left₂ moved Wanted =
+  -- so it goes from any history on of which this is known, where no message of the connection was answered since the last look
+  abbrev pub Moves : ℕ → P → P → H → H → Link → Link → ℕ → ℕ → (List Step → Type 0) → Bool → (Talk → Type 0) → Type 0
+  Moves place peers peers₂ handler handler₂ link link₂ left left₂ Known moved Wanted =
       (start : P) (first : H) (earlier : List Step) → Runs start first earlier peers handler → place < 64 → Holds (talk place earlier) link
-      → (talk place earlier).replies ≡ 0 → GoesFrom place peers₂ handler₂ link₂ left left₂ moved Wanted start first earlier
+      → (talk place earlier).replies ≡ 0 → Known earlier → GoesFrom place peers₂ handler₂ link₂ left left₂ moved Wanted start first earlier
 
 -- what is kept at each place is what became of the connection there
 abbrev pub AllHold : List Step → List Link → Type 0

@@ -1,8 +1,8 @@
 //! One connection of many: what is done for it at its turn, none of which waits for its peer.
-ghost use Rattle.std.specs.Prelude.{◌≡◌, true, false};
-ghost use Rattle.fax_net.specs.History.{IsAttended};
-ghost use Rattle.fax_net.specs.Link.{HasAnswered, is_done};
-ghost use Rattle.fax_net.specs.Deeds.{Admits, Does, TakesIn};
+ghost use Rattle.std.specs.Prelude.{◌≡◌, ◌&&◌, nat_le, true, false};
+ghost use Rattle.fax_net.specs.History.{IsAttended, room, untaken};
+ghost use Rattle.fax_net.specs.Link.{HasAnswered, is_done, is_taken};
+ghost use Rattle.fax_net.specs.Deeds.{Admits, Does, HoldsUp, TakesIn};
 ghost use Rattle.fax_net.specs.Many.{Moves};
 
 use crate::link::{Link, Stage, stage_behind};
@@ -10,22 +10,24 @@ use crate::peers::{Coming, Moved, Peers};
 use fax_http::{Found, Handler, answer_front};
 
 /// Does what there is to do at a place, and gives whether more may be to do there at once. What is read goes through
-/// `piece`.
+/// `piece`. Where `is_full`, there is no room for a listing.
 pub(crate) fn serve_place<P: Peers, H: Handler>(
     peers: &mut P,
     place: usize,
     link: &mut Link,
     left: &mut u64,
+    is_full: bool,
     handler: &mut H,
     piece: &mut [u8],
 ) -> bool
     requires { H.over handler.old ≡ false }
-    ensures { Moves P.did H.answers H.over place peers.old peers.new handler.old handler.new link.old link.new left.old left.new result (IsAttended result) }
+    ensures { Moves P.did H.answers H.over place peers.old peers.new handler.old handler.new link.old link.new left.old left.new
+        (λ earlier. is_full ≡ (is_taken link.old.stage && nat_le room (untaken earlier))) result (IsAttended result) }
 {
     if link.is_free() {
         admit(peers, place, link, left)
     } else {
-        converse(peers, place, link, handler, piece)
+        converse(peers, place, link, is_full, handler, piece)
     }
 }
 
@@ -52,34 +54,38 @@ fn admit<P: Peers>(peers: &mut P, place: usize, link: &mut Link, left: &mut u64)
 }
 
 /// Reads where a message is awaited, answers one that is there, writes what is owed, ends what is done, and reads again:
-/// where nothing more came then, there is nothing to do until the peer says more.
+/// where nothing more came then, there is nothing to do until the peer says more. One that asks for a listing is held
+/// while there is no room.
 fn converse<P: Peers, H: Handler>(
     peers: &mut P,
     place: usize,
     link: &mut Link,
+    is_full: bool,
     handler: &mut H,
     piece: &mut [u8],
 ) -> bool
     requires { H.over handler.old ≡ false }
-    ensures { Moves P.did H.answers H.over place peers.old peers.new handler.old handler.new link.old link.new 0 0 result (IsAttended result) }
+    ensures { Moves P.did H.answers H.over place peers.old peers.new handler.old handler.new link.old link.new 0 0
+        (λ earlier. is_full ≡ nat_le room (untaken earlier)) result (IsAttended result) }
 {
     let came = take_in(peers, place, link, piece);
-    let answered = answer(link, handler);
+    let answered = answer(link, is_full, handler);
     let refused = link.end_input();
     let written = write(peers, place, link);
     let ended = leave(peers, place, link);
     link.await_next();
     let read = take_in(peers, place, link, piece);
     let moved = came | answered | refused | written | ended | read;
-    moved & (read | !link.awaits())
+    let closed = hold(peers, place, link, is_full & !moved);
+    closed | moved & (read | !link.awaits())
 }
 
-/// Looks for the next message, and has it answered.
-fn answer<H: Handler>(link: &mut Link, handler: &mut H) -> bool
+/// Looks for the next message, and has it answered unless it is to be held.
+fn answer<H: Handler>(link: &mut Link, is_full: bool, handler: &mut H) -> bool
     requires { H.over handler.old ≡ false }
-    ensures { HasAnswered H.answers H.over handler.old handler.new link.old link.new result }
+    ensures { HasAnswered H.answers H.over handler.old handler.new is_full link.old link.new result }
 {
-    if !link.is_due() {
+    if !link.is_due() || link.is_held(is_full) {
         return false;
     }
     match answer_front(&mut link.said, handler) {
@@ -101,6 +107,18 @@ fn answer<H: Handler>(link: &mut Link, handler: &mut H) -> bool
             false
         }
     }
+}
+
+/// Holds a connection that asks for a listing while there is no room for it. Returns whether it was closed, since its time
+/// is over.
+fn hold<P: Peers>(peers: &mut P, place: usize, link: &mut Link, is_full: bool) -> bool
+    ensures { HoldsUp P.did place peers.old peers.new link.old link.new is_full result }
+{
+    if !link.is_held(is_full) || peers.hold(place) {
+        return false;
+    }
+    link.clear(Stage::Free);
+    true
 }
 
 /// Writes once of what is owed.

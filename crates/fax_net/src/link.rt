@@ -1,6 +1,7 @@
 //! What a server keeps of one connection: what it said and isn't answered yet, and what is still to be written to it.
-ghost use Rattle.std.specs.Prelude.{◌≡◌, ◌≤◌, ◌<◌, ◌⊎◌, IsTrue, ◌↔◌, IfOk};
-ghost use Rattle.fax_net.specs.Link.{AwaitsNext, HasEnded, IsUnused, Owes, awaits, is_done, is_due, is_owing};
+ghost use Rattle.std.specs.Prelude.{◌≡◌, ◌≤◌, ◌<◌, ◌^◌, ◌⊎◌, IsTrue, ◌↔◌, IfOk};
+ghost use Rattle.fax_net.specs.History.{asks_for_listing};
+ghost use Rattle.fax_net.specs.Link.{AwaitsNext, HasEnded, IsUnused, Owes, awaits, is_done, is_due, is_held, is_owing, untaken_by};
 
 use crate::pending::Pending;
 use fax_http::{Broken, Buffer, Outgoing};
@@ -8,6 +9,9 @@ use std::alloc::{AllocError, Global};
 
 /// The most messages of one connection.
 const MESSAGE_LIMIT: u32 = 1_000;
+
+/// What a request for a listing begins with.
+const LISTING: &[u8] = b"GET /jobs ";
 
 /// How far a conversation has come.
 #[derive(Clone, Copy, Debug, PartialEq, Eq)]
@@ -106,6 +110,24 @@ impl Link {
         self.stage == Stage::Open && self.pending.is_empty() && !self.is_awaited
     }
 
+    /// Whether its next message asks for a listing and there is no room for that.
+    pub(crate) fn is_held(&self, is_full: bool) -> bool
+        ensures { result ≡ is_held is_full self.now }
+    {
+        is_full && self.is_due() && asks_for_listing(self.said.bytes())
+    }
+
+    /// How many bytes are to be written to it.
+    pub(crate) fn untaken(&self) -> u128
+        ensures untaken { result ≡ untaken_by self.now }
+        ensures bound { result < 2 ^ 65 }
+    {
+        if self.is_free() {
+            return 0;
+        }
+        self.pending.len()
+    }
+
     /// Whether more of its next message is to be read.
     pub(crate) fn awaits(&self) -> bool
         ensures { result ≡ awaits self.now }
@@ -126,6 +148,18 @@ impl Link {
     {
         self.stage == Stage::Ending && self.pending.is_empty()
     }
+}
+
+/// Whether a message that begins so asks for a listing.
+fn asks_for_listing(said: &[u8]) -> bool
+    ensures { result ≡ asks_for_listing said.now }
+{
+    let mut rest = said;
+    while let [b'\r' | b'\n', after @ ..] = rest {
+        rest = after;
+    }
+    let front = &rest[..rest.len().min(LISTING.len())];
+    front == LISTING
 }
 
 /// How a conversation goes on behind so many messages.

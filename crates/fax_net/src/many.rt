@@ -1,5 +1,7 @@
 //! Many connections are served side by side: each has its turn, and none waits for another's peer.
-ghost use Rattle.std.specs.Prelude.{◌≡◌, ◌<◌, ℕ, true, length, get_or, IfOk};
+ghost use Rattle.std.specs.Prelude.{◌≡◌, ◌<◌, ◌&&◌, ℕ, true, length, get_or, nat_le, IfOk};
+ghost use Rattle.fax_net.specs.History.{room};
+ghost use Rattle.fax_net.specs.Link.{is_taken, untaken_in};
 ghost use Rattle.fax_net.specs.declared.link.Link.{Link as KeptLink};
 ghost use Rattle.fax_net.specs.Many.{Rounds, ServesMany};
 
@@ -11,6 +13,9 @@ use std::alloc::{AllocError, Global};
 
 /// How many connections are served at once.
 pub(crate) const PLACES: usize = 64;
+
+/// How many bytes the replies may have that their peers haven't taken yet while a listing is begun.
+const ROOM: u128 = 64_000_000;
 
 /// The most bytes of one read.
 const PIECE_LIMIT: usize = 4_096;
@@ -58,9 +63,32 @@ fn serve_round<P: Peers, H: Handler>(
         if handler.is_over() {
             return true;
         }
-        is_busy |= serve_place(peers, place, &mut links[place], left, handler, piece);
+        let is_full = is_full(links, place);
+        let link = &mut links[place];
+        is_busy |= serve_place(peers, place, link, left, is_full, handler, piece);
     }
     is_busy
+}
+
+/// Whether there is no room for a listing. It isn't looked up for a place where nobody is.
+fn is_full(links: &[Link], place: usize) -> bool
+    requires places { length links.now ≡ PLACES }
+    requires within { place < PLACES }
+    ensures { (d : KeptLink) → result ≡ (is_taken (get_or links.now place d).stage && nat_le room (untaken_in links.now)) }
+{
+    !links[place].is_free() && untaken(links) >= ROOM
+}
+
+/// How many bytes of replies their peers haven't taken yet.
+fn untaken(links: &[Link]) -> u128
+    requires { length links.now ≡ PLACES }
+    ensures { result ≡ untaken_in links.now }
+{
+    let mut untaken = 0;
+    for link in links {
+        untaken += link.untaken();
+    }
+    untaken
 }
 
 /// Whether nobody is there.

@@ -28,7 +28,7 @@ pub enum Coming {
 pub trait Peers {
     ghost use Rattle.std.specs.Prelude.{◌++◌, length};
     ghost use Rattle.fax_net.specs.History.{Step, Looked, At, Left};
-    ghost use Rattle.fax_net.specs.Peers.{IsWithin, step_of_coming, step_of_read, step_of_write};
+    ghost use Rattle.fax_net.specs.Peers.{IsWithin, step_of_coming, step_of_hold, step_of_read, step_of_write};
 
     // What may happen, and the connections after it.
     ghost did: { Self → Step → Self → Type 0 };
@@ -50,6 +50,11 @@ pub trait Peers {
     fn write(&mut self, place: usize, front: &[u8], back: &[u8]) -> Moved
         ensures within { IsWithin result (length (front.now ++ back.now)) }
         ensures step { did self.old (step_of_write place (front.now ++ back.now) result) self.new };
+
+    /// Holds the connection, since there is no room for the listing that its peer asks for. Returns whether it is still
+    /// there: where its time is over, it is closed.
+    fn hold(&mut self, place: usize) -> bool
+        ensures { did self.old (step_of_hold place result) self.new };
 
     /// Ends the connection, once its peer has what was written.
     fn leave(&mut self, place: usize)

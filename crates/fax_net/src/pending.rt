@@ -1,5 +1,5 @@
 //! What is still to be written of a reply.
-ghost use Rattle.std.specs.Prelude.{◌≡◌, ◌+◌, ◌≤◌, ◌++◌, [], drop, length};
+ghost use Rattle.std.specs.Prelude.{◌≡◌, ◌+◌, ◌<◌, ◌≤◌, ◌^◌, ◌++◌, [], drop, length};
 ghost use Rattle.fax_net.specs.Lists.{is_none};
 
 use fax_http::Outgoing;
@@ -54,6 +54,15 @@ impl Pending {
                 behind(front, back, self.sent)
             }
         }
+    }
+
+    /// How many bytes they are.
+    pub(crate) fn len(&self) -> u128
+        ensures length { result ≡ length self.now }
+        ensures bound { result < 2 ^ 65 }
+    {
+        let (front, back) = self.parts();
+        front.len() as u128 + back.len() as u128
     }
 
     pub(crate) fn is_empty(&self) -> bool

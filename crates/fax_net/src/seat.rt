@@ -164,6 +164,13 @@ impl Seat {
         }
     }
 
+    /// Holds the connection, which isn't the peer's fault: only the time of the whole connection counts. Returns whether
+    /// that isn't over.
+    pub(crate) fn hold(&mut self, now: Instant) -> bool {
+        self.moved = now;
+        !self.is_over(now)
+    }
+
     /// Says that nothing more is written, and gives whether the peer is to be waited for. Where bytes were left unread, the
     /// system might drop a reply that the peer hasn't read yet (RFC 9112, section 9.6).
     pub(crate) fn leave(&mut self, now: Instant) -> bool {

@@ -397,6 +397,18 @@ impl Peers for Sockets<'_> {
         moved
     }
 
+    fn hold(&mut self, place: usize) -> bool {
+        let now = self.read_clock();
+        let stays = match self.seats.get_mut(place) {
+            Some(Some(seat)) => seat.hold(now),
+            Some(None) | None => false,
+        };
+        if !stays {
+            self.free(place);
+        }
+        stays
+    }
+
     fn leave(&mut self, place: usize) {
         let now = self.read_clock();
         let stays = match self.seats.get_mut(place) {

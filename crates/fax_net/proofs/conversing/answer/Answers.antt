@@ -1,14 +1,16 @@
-use Rattle.std.proofs.Common.{◌≡◌, ◌∙◌, true, rules, refl, inl, inr, subst, sym, arith}
+use Rattle.std.proofs.Common.{◌≡◌, ◌∙◌, true, false, rules, refl, inl, inr, subst, sym, arith}
 use Rattle.fax_http.specs.Found.{Finds}
 use Rattle.fax_http.specs.declared.turn.Found.TheVariants.{Answered, Last}
-use Rattle.fax_net.specs.Link.{is_due}
+use Rattle.fax_net.specs.Link.{is_due, is_held}
 use Rattle.fax_net.proofs.conversing.answer.Goals as goal
 
 pub returns-in-Answered : goal.returns-in-Answered
 returns-in-Answered g c =
     let due : is_due c.args.link.now ≡ true = search rules in
+    let unheld : is_held c.args.is_full c.args.link.now ≡ false = search rules in
     inr (
       due,
+      unheld,
       Answered c.in-Answered.reply,
       subst (λ v. Finds g.H.Handler.answers g.H.Handler.over c.args.handler.now c.answer_front.new.handler c.args.link.now.said v (Answered c.in-Answered.reply)) (sym c.owe.ensures.said) c.in-Answered.ensures,
       (
@@ -26,8 +28,10 @@ returns-in-Answered g c =
 pub returns-in-Last : goal.returns-in-Last
 returns-in-Last g c =
     let due : is_due c.args.link.now ≡ true = search rules in
+    let unheld : is_held c.args.is_full c.args.link.now ≡ false = search rules in
     inr (
       due,
+      unheld,
       Last c.in-Last.reply,
       subst (λ v. Finds g.H.Handler.answers g.H.Handler.over c.args.handler.now c.answer_front.new.handler c.args.link.now.said v (Last c.in-Last.reply)) (sym c.owe-in-Last.ensures.said) c.in-Last.ensures,
       (refl, c.owe-in-Last.ensures.pending, c.owe-in-Last.ensures.stage_is),

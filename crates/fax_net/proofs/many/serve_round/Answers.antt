@@ -1,5 +1,6 @@
 use Rattle.std.proofs.Common.{◌∙◌, true, sym, arith}
 use Rattle.fax_net.proofs.ManyLemmas.{round_ends, round_next, round_over}
+use Rattle.fax_net.proofs.RoomLemmas.{known_room}
 use Rattle.fax_net.proofs.many.serve_round.Goals as goal
 
 pub returns-then-is_over : goal.returns-then-is_over
@@ -11,4 +12,6 @@ returns g c = round_ends g.P.Peers.did g.H.Handler.answers g.H.Handler.over _ _ 
 
 pub loop-place-preserved : goal.loop-place-preserved
 loop-place-preserved g c =
-    round_next g.P.Peers.did g.H.Handler.answers g.H.Handler.over _ _ _ _ _ _ _ _ _ _ _ _ _ _ _ _ c.loop-place.invariant (omega arith) (c.loop-place.auto.links ∙ c.requires) c.serve_place-is_busy.ensures
+    let size = c.loop-place.auto.links ∙ c.requires in
+    round_next g.P.Peers.did g.H.Handler.answers g.H.Handler.over _ _ _ _ _ _ _ _ _ _ _ _ _ _ _ _ _ c.loop-place.invariant (omega arith) size
+    (λ history all. known_room history c.loop-place.links _ _ c.is_full-is_full.result size all (c.is_full-is_full.ensures _)) c.serve_place-is_busy.ensures

@@ -1,0 +1,14 @@
+-- What the files of an office mean, once both were read.
+use Rattle.std.proofs.Common.{ℕ, Vec, Result, Ok, Err, inr}
+use Rattle.std.specs.declared.alloc.Global.{Global}
+use Rattle.fax_files.specs.Office.{IsReadOf}
+use Rattle.fax_files.specs.Shown.{IsShownOf, ShowsBoth}
+use Rattle.fax_files.specs.declared.office.OfficeFault.{OfficeFault}
+use Rattle.fax_files.specs.declared.shown.Shown.{Shown}
+use Rattle.fax_text.specs.declared.server.OfficeFiles.{OfficeFiles}
+
+-- what comes of the texts comes of the files
+pub shown_of : (files : OfficeFiles) (setup controls : Vec ℕ Global) (result : Result Shown OfficeFault) → IsReadOf files.setup (Ok setup) → IsReadOf files.controls (Ok controls)
+    → ShowsBoth setup.items controls.items result → IsShownOf files result
+shown_of files setup controls (Ok shown) its theirs shows = record { setup = setup; controls = controls; setup_read = its; controls_read = theirs; shown = shows }
+shown_of files setup controls (Err fault) its theirs shows = inr (inr (record { setup = setup; controls = controls; setup_read = its; controls_read = theirs; shown = shows }))

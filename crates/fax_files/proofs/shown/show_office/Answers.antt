@@ -1,0 +1,11 @@
+use Rattle.std.proofs.Common.{subst}
+use Rattle.fax_files.specs.Shown.{ShowsBoth}
+use Rattle.fax_files.proofs.ShownLemmas.{shown_of}
+use Rattle.fax_files.proofs.shown.show_office.Goals as goal
+
+pub returns : goal.returns
+returns c =
+    let result = c.show_texts.result in
+    shown_of c.args.files c.in_ok-setup.setup c.in_ok-controls.controls result c.in_ok-setup.ensures c.in_ok-controls.ensures
+    (subst (λ text. ShowsBoth text c.in_ok-controls.controls.items result) c.as_slice.ensures.value
+    (subst (λ text. ShowsBoth c.as_slice.result.now text result) c.as_slice-2.ensures.value c.show_texts.ensures))
