@@ -1,10 +1,14 @@
 """What the documents tell a reader to run, taken out of their text."""
+import os
+import random
 import re
 import shlex
 import subprocess
+import threading
+import time
 
 from .runner import group
-from .shared import MANY, Server, TOP, attempt, expect, expect_same, said, wants
+from .shared import EXAMPLES, MANY, Peer, Server, TOP, attempt, expect, expect_same, post, rows_of, said, say, wants, within
 
 check = group("documents", "Runs the commands of the documents.", "waiting")
 ADDRESS = "127.0.0.1:4559"
@@ -54,3 +58,80 @@ def curl(folder):
         for command, wanted in shown:
             with attempt(command):
                 prints(command, wanted)
+
+
+def shell(command, folder=None, **settings):
+    """What a command prints, which has to succeed."""
+    ran = subprocess.run(["sh", "-ec", command], cwd=folder, capture_output=True, text=True, timeout=60,
+                         env={**os.environ, **settings})
+    expect(ran.returncode == 0, f"`{command}` ends with {ran.returncode}, and says {ran.stderr!r}")
+    return ran.stdout.strip()
+
+
+@check
+def start(folder):
+    """The first command of OPERATIONS.md serves in a clone."""
+    words = shlex.split(code(section_of(text_of("OPERATIONS.md"), "Start"))[0])
+    expect(words[:6] == ["./faxqd", "serve", "--db", "queue.db", "--listen", ADDRESS], f"the first command is {words}")
+    expect(os.access(TOP / words[0], os.X_OK), f"a clone has no {words[0]}")
+    with Server(folder / "queue.db", *words[6:], folder=TOP):
+        pass
+
+
+class Load(threading.Thread):
+    """A client that hands in faxes of 10 kB one after the other, so that about each two hundredth makes the server checkpoint."""
+
+    def __init__(self, port, client):
+        super().__init__(daemon=True)
+        self.port, self.client, self.replies, self.ends = port, client, {}, False
+        self.start()
+
+    def run(self):
+        number = 0
+        while not self.ends:
+            with Peer(self.port, patience=60) as peer:
+                while not self.ends and number % 900 != 899:
+                    number += 1
+                    peer.say(post("/jobs", number, f"number:5550111\ntotpages:1\nnote:{'x' * 10000}\n", self.client))
+                    self.replies[number] = peer.reply().partition(b"\r\n\r\n")[2].decode()
+                    time.sleep(0.005)
+            number += 1
+
+
+@check
+def copies(folder):
+    """The commands of OPERATIONS.md that tell which job a submission became do so while the server takes faxes and
+    checkpoints, and each copy is whole."""
+    wants("sqlite3")
+    lines = code(section_of(text_of("OPERATIONS.md"), "Who did what, and when"))
+    commands = "\n".join(lines[lines.index("mkdir -m 700 /tmp/copy"):])
+    chance, until, count = random.Random(18), time.monotonic() + (30 if said.all else 3), 0
+    with Server(folder / "queue.db", *MANY, "--timeout", "60") as server:
+        loads = [Load(server.port, client) for client in ("desk", "shop")]
+        try:
+            while time.monotonic() < until or count < 5:
+                time.sleep(chance.uniform(0, 0.1))
+                within("an answer", lambda: all(load.replies for load in loads), 60)
+                count += 1
+                is_sound_copy(folder, commands, server.process.pid, chance.choice(loads), count)
+        finally:
+            for load in loads:
+                load.ends = True
+            for load in loads:
+                load.join()
+    say(f"{count} copies, of up to {sum(len(load.replies) for load in loads)} faxes")
+
+
+def is_sound_copy(folder, commands, process, load, count):
+    """These commands make a sound copy that has the last reply."""
+    number, reply = max(load.replies.items())
+    for old, new in (("systemctl kill --signal=STOP faxqd", f"kill -STOP {process}"),
+                     ("systemctl kill --signal=CONT faxqd", f"kill -CONT {process}"), ("/var/lib/faxqd", str(folder)),
+                     ("/tmp/copy", f"{folder}/copy-{count}"), ("'desk'", f"'{load.client}'"), ("= 7", f"= {number}")):
+        expect(old in commands, f"the commands have no {old}")
+        commands = commands.replace(old, new)
+    expect_same(shell(commands), reply, f"request {number} of {load.client} in copy {count}")
+    copy = folder / f"copy-{count}/queue.db"
+    found = rows_of(copy, "PRAGMA integrity_check") + rows_of(copy, "SELECT (SELECT count(*) FROM jobs) - count(*) FROM replies")
+    expect(found == [("ok",), (0,)], f"in copy {count} sqlite finds {found}: faults, and jobs without a reply")
+    copy.unlink()
