@@ -7,6 +7,7 @@ import subprocess
 import threading
 import time
 
+from .faxq import tiff
 from .runner import group
 from .shared import EXAMPLES, MANY, Peer, Server, TOP, attempt, expect, expect_same, post, rows_of, said, say, wants, within
 
@@ -135,3 +136,56 @@ def is_sound_copy(folder, commands, process, load, count):
     found = rows_of(copy, "PRAGMA integrity_check") + rows_of(copy, "SELECT (SELECT count(*) FROM jobs) - count(*) FROM replies")
     expect(found == [("ok",), (0,)], f"in copy {count} sqlite finds {found}: faults, and jobs without a reply")
     copy.unlink()
+
+
+# ---- faxes by efax
+
+EFAX = """#!/bin/sh
+# Prints what efax prints when it sends each page and the receiver confirms it.
+echo "efax: 00:00 opened"
+echo "efax: 00:01 connected"
+for word; do
+    case $word in *.tif) sleep "${EACH:-0}"; echo "efax: 00:02 sent -> $word"; echo "$word" >> "$SENT" ;; esac
+done
+echo "efax: 00:03 done, returning 0 (success)"
+"""
+
+
+def stubs(folder, pages):
+    """A folder with an efax that sends what it is given, and tools that find so many pages in each document."""
+    there = folder / "bin"
+    there.mkdir()
+    tiff(there / "page.tif", 1)
+    listed = "TIFF Directory at 0x8\n" * pages
+    for name, text in (("efax", EFAX), ("tiffinfo", f"#!/bin/sh\nprintf '{listed}'\n"),
+                       ("tiffcp", f"#!/bin/sh\nfor word; do :; done\ncp {there}/page.tif \"$word\"\n")):
+        (there / name).write_text(text)
+        (there / name).chmod(0o755)
+    return {"PATH": f"{there}:{os.environ['PATH']}", "SENT": str(folder / "sent")}
+
+
+@check
+def efax(folder):
+    """A document that `faxq submit` hands in as OPERATIONS.md says is sent by efax-worker as it is started there; efax is a stub."""
+    text, home = text_of("OPERATIONS.md"), folder / "home"
+    worker = next(line for line in code(section_of(text, "Faxes by efax")) if "efax-worker" in line)
+    submit = next(line for line in code(section_of(text, "Clients")) if line.startswith("faxq submit "))
+    worker, submit = (re.sub(r"(?<![\w/])/var/", f"{folder}/var/", line) for line in (worker, submit))
+    (folder / "var/spool/fax").mkdir(parents=True)
+    home.mkdir()
+    tiff(home / shlex.split(submit)[-1], 2)
+    with Server(folder / "queue.db", "--setup", EXAMPLES / "office.setup", *MANY) as server:
+        settings = {**stubs(folder, 2), "FAXQD": f"http://127.0.0.1:{server.port}", "FAXQ_FOLDER": str(folder / "faxq"),
+                    "CLIENT": "desk", "WAIT": "0.2", "PAUSE": "0.1", "no_proxy": "*"}
+        expect(shell(submit.replace("faxq", str(EXAMPLES / "faxq"), 1), home, **settings) == "1", "the fax isn't job 1")
+        process = subprocess.Popen(["sh", "-c", f"exec env {worker}"], cwd=TOP, stdin=subprocess.DEVNULL, stderr=subprocess.PIPE,
+                                   env={**os.environ, **settings})
+        try:
+            def over():
+                shown = shell(f"{EXAMPLES}/faxq status 1", **settings)
+                expect(" failed" not in shown, shown)
+                return " is done: 2 of 2 pages confirmed" in shown
+            within("the job is done", over, pause=0.2)
+        finally:
+            process.kill()
+            process.communicate()
