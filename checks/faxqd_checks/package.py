@@ -6,11 +6,15 @@ import os
 import pathlib
 import re
 import shutil
+import signal
 import subprocess
 import time
 
+from .documents import stubs
+from .faxq import tiff
 from .runner import group
-from .shared import TOP, attempt, expect, expect_same, post, reply_bytes, run as run_program, said, wants, within
+from .shared import (CLOSE, EXAMPLES, MANY, Server, TOP, answer_to, attempt, expect, expect_same, get, post, reply_bytes,
+                     run as run_program, said, wants, within)
 
 check = group("package", "Builds the Debian package, looks at what is in it, and tries it in a root of Debian's packages.", "waiting")
 OLD_FORM = "0~20261129.fffffff"  # the greatest version of that day in the form that packages had before
@@ -125,6 +129,67 @@ def log(folder):
         expect(ran.returncode == 0 and "error" not in ran.stderr, f"logrotate says {ran.stderr}")
     there = {one.name: done("zcat", "--force", one) for one in logs.iterdir()}
     expect_same(there, {f"{calls.name}.1": "call 3\n", f"{calls.name}.2.gz": "call 2\n", f"{calls.name}.3.gz": "call 1\n"}, "the logs")
+
+
+MODEM = """#!/bin/sh
+# Sends pages, a second each, and writes down when each begins and ends.
+echo "$1 begins" >> "$SENT"
+case $1 in dial) echo connected ;; page) sleep 1 ;; esac
+echo "$1 ends" >> "$SENT"
+"""
+
+
+def stop(process, mode):
+    """Stops the processes of a unit as systemd.kill(5) says of this KillMode=."""
+    if mode == "control-group":
+        os.killpg(process.pid, signal.SIGTERM)
+    else:
+        process.terminate()
+    process.wait()
+    if mode == "mixed":
+        os.killpg(process.pid, signal.SIGKILL)
+
+
+@check
+def stopped(folder):
+    """A call that a worker has begun goes on when the worker is stopped as its unit says, and the next worker waits for its end:
+    by worker.sh the page is sent to its end, by efax-worker the whole fax, each page once."""
+    wants("curl")
+    unit = (TOP / "packaging/faxqd-worker@.service").read_text()
+    mode = (re.findall(r"(?m)^KillMode=(\S+)$", unit) or ["control-group"])[-1]
+    settings = {**os.environ, **stubs(folder, 2), "EACH": "1", "WAIT": "0.2", "PAUSE": "0.1", "no_proxy": "*"}
+    (folder / "modem").write_text(MODEM)
+    (folder / "modem").chmod(0o755)
+    tiff(folder / "letter.tif", 2)
+    (folder / "setup").write_text("Modem: ttyS0\nJobReqProto: 0\n")
+    for name, words in ("worker.sh", [folder / "modem"]), ("efax-worker", [folder, "-d", "/dev/null"]):
+        sent = folder / name
+        sent.mkdir()
+        with attempt(name), Server(sent / "queue.db", *MANY, "--setup", folder / "setup") as server:
+            settings |= {"FAXQD": f"http://127.0.0.1:{server.port}", "SENT": str(sent / "sent")}
+            fax = f"number:5550111\ntotpages:2\ntiff:0::{folder}/letter.tif\n"
+            expect(answer_to(server.port, post("/jobs", 1, fax, fields=CLOSE))[0] == 201, "the fax isn't accepted")
+            def begin():
+                return subprocess.Popen([EXAMPLES / name, "ttyS0", sent / "kept", *words], env=settings, stdin=subprocess.DEVNULL,
+                                        start_new_session=True)
+            def has(what):
+                return (sent / "sent").exists() and what in (sent / "sent").read_text()
+            process = begin()
+            try:
+                within("a page is under way", lambda: has("page begins") or has("0001.tif"))
+                time.sleep(0.2)
+                stop(process, mode)
+                process = begin()
+                within("the job is done", lambda: b"\nstate:7\n" in answer_to(server.port, get("/jobs/1", CLOSE))[1])
+            finally:
+                os.killpg(process.pid, signal.SIGKILL)
+                process.wait()
+            happened, job = (sent / "sent").read_text().split("\n"), answer_to(server.port, get("/jobs/1", CLOSE))[1]
+            if name == "efax-worker":
+                expect(happened == ["0001.tif", "0002.tif", ""] and b"\ntotdials:1\n" in job, f"the pages {happened} are sent: {job}")
+            else:
+                begun = happened.index("page begins")
+                expect(happened[begun + 1] == "page ends", f"a page is broken off, or the next worker doesn't wait: {happened}")
 
 
 # ---- in a root of Debian's packages
