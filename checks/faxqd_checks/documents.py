@@ -9,7 +9,9 @@ import time
 
 from .faxq import tiff
 from .runner import group
-from .shared import EXAMPLES, MANY, Peer, Server, TOP, attempt, expect, expect_same, post, rows_of, said, say, wants, within
+from .shared import (CLOSE, EXAMPLES, MANY, Peer, Server, TOP, answer_to, attempt, expect, expect_same, get, post, rows_of, said,
+                     say, submission, wants, within)
+from .unit import NOBODY, as_user, reachable
 
 check = group("documents", "Runs the commands of the documents.", "waiting")
 ADDRESS = "127.0.0.1:4559"
@@ -136,6 +138,33 @@ def is_sound_copy(folder, commands, process, load, count):
     found = rows_of(copy, "PRAGMA integrity_check") + rows_of(copy, "SELECT (SELECT count(*) FROM jobs) - count(*) FROM replies")
     expect(found == [("ok",), (0,)], f"in copy {count} sqlite finds {found}: faults, and jobs without a reply")
     copy.unlink()
+
+
+@check
+def restored(folder):
+    """The commands of OPERATIONS.md bring a backup back so that the server's own user serves it, without what came later."""
+    commands = [line for line in code(section_of(text_of("OPERATIONS.md"), "Backup")) if re.match("cp |rm ", line)]
+    expect([command.split()[0] for command in commands] == ["cp", "rm", "cp"], f"the commands are {commands}")
+    state, said.program = folder / "state", reachable(folder)
+    (folder / "backup").mkdir()
+    state.mkdir(mode=0o700)
+    if os.getuid() == 0:
+        os.chown(state, NOBODY, NOBODY)
+    backup, remove, restore = (line.replace("/var/lib/faxqd", str(state)).replace("/backup", f"{folder}/backup") for line in commands)
+    with Server(state / "queue.db", *MANY, limits=as_user) as server:
+        def jobs():
+            return len(answer_to(server.port, get("/jobs", CLOSE))[1].splitlines()) - 1
+        answer_to(server.port, submission(1, fields=CLOSE))
+        server.kill()
+        shell(backup)
+        server.start()
+        answer_to(server.port, submission(2, fields=CLOSE))
+        expect(jobs() == 2, "the second fax isn't there")
+        server.kill()
+        shell(f"{remove}\n{restore}")
+        server.start()
+        expect(jobs() == 1, f"of a backup with one job there are {jobs()}")
+        expect(answer_to(server.port, submission(3, fields=CLOSE)) == (201, b'{"job":2}'), "a fax isn't accepted after a restore")
 
 
 # ---- faxes by efax

@@ -138,24 +138,33 @@ class Filters:
 
     def confine(self):
         """The same for a process of the unit's user, who has no privilege."""
-        if os.getuid() == 0:
-            os.setgroups([])
-            os.setgid(NOBODY)
-            os.setuid(NOBODY)
-        os.umask(0o077)
+        as_user()
         self.load()
 
 
 # ---- checks
 
+def as_user():
+    """Makes this process one of a user without privileges."""
+    if os.getuid() == 0:
+        os.setgroups([])
+        os.setgid(NOBODY)
+        os.setuid(NOBODY)
+    os.umask(0o077)
+
+
+def reachable(folder):
+    """A copy of the program that such a user can reach."""
+    folder.chmod(0o755)
+    return shutil.copy(said.program, folder / "faxqd")
+
+
 class Place:
     """A folder with the program, its files and its queue, and the unit's commands as they are there."""
 
     def __init__(self, folder):
-        folder.chmod(0o755)
-        self.program, self.etc, self.state = folder / "faxqd", folder / "etc", folder / "state"
-        shutil.copy(said.program, self.program)
-        said.program = self.program  # `Server` runs this one, which the user can reach
+        said.program = self.program = reachable(folder)  # `Server` runs it too
+        self.etc, self.state = folder / "etc", folder / "state"
         self.etc.mkdir()
         for kind in "setup", "controls":
             shutil.copy(EXAMPLES / f"office.{kind}", self.etc)
