@@ -127,7 +127,7 @@ def copies(folder):
 
 def is_sound_copy(folder, commands, process, load, count):
     """These commands make a sound copy that has the last reply."""
-    number, reply = max(load.replies.items())
+    number, reply = max(dict(load.replies).items())
     for old, new in (("systemctl kill --signal=STOP faxqd", f"kill -STOP {process}"),
                      ("systemctl kill --signal=CONT faxqd", f"kill -CONT {process}"), ("/var/lib/faxqd", str(folder)),
                      ("/tmp/copy", f"{folder}/copy-{count}"), ("'desk'", f"'{load.client}'"), ("= 7", f"= {number}")):

@@ -40,7 +40,7 @@ class Proxy:
     def configuration(self, queue):
         """The configuration, for a queue at this port."""
         text = (TOP / "docs/OPERATIONS.md").read_text()
-        site = code_of(text, r"# Fax-Client is", r"\}\n(?=\n)")
+        site = code_of(text, r"# Fax-Client has to be", r"\}\n(?=\n)")
         logs = code_of(text, "log_format fax", r"access_log [^\n]*;")
         for old, new, times in (("listen 443", f"listen 127.0.0.1:{self.port}", 1), ("/etc/nginx/fax.pem", self.folder / "pem", 1),
                                 ("/etc/nginx/fax.key", self.folder / "key", 1), ("/etc/nginx/fax.users", self.folder / "users", 1),
