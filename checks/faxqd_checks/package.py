@@ -16,7 +16,8 @@ from .runner import group
 from .shared import (CLOSE, EXAMPLES, MANY, Server, TOP, answer_to, attempt, expect, expect_same, get, post, reply_bytes,
                      run as run_program, said, wants, within)
 
-check = group("package", "Builds the Debian package, looks at what is in it, and tries it in a root of Debian's packages.", "waiting")
+look = group("packaged", "Looks at what is in the Debian package, and how its worker's unit ends.", "waiting")
+check = group("package", "Builds the Debian package, and tries it in a root of Debian's packages.", by_hand=True)
 OLD_FORM = "0~20261129.fffffff"  # the greatest version of that day in the form that packages had before
 MOMENTS = "2026-11-29T00:00:00Z", "2026-11-29T00:00:01Z", "2026-11-29T13:00:00Z", "2026-11-30T00:00:00Z"
 NOBODY = 65534
@@ -46,7 +47,7 @@ def versions(folder):
         yield re.search(r"faxqd_(.*?)_\w+\.deb'", built)[1]
 
 
-@check
+@look
 def grows(folder):
     """The version of a later commit is greater, also within a day, and than each in the form that it had before."""
     wants("dpkg-deb", "objdump", "git")
@@ -64,7 +65,7 @@ def extracted(folder):
     return folder / "root"
 
 
-@check
+@look
 def as_installed(folder):
     """As it is installed no rule refuses or delays a fax, and each example rule is there to be taken; what an administrator may
     change is kept by an upgrade; no worker begins before an office's own program is there."""
@@ -90,19 +91,25 @@ def as_installed(folder):
     expect(needs[1] in (root / "usr/share/doc/faxqd/OPERATIONS.md").read_text(), f"OPERATIONS doesn't tell of {needs[1]}")
 
 
-@check
+@look
 def units(folder):
-    """systemd finds no fault in the package's units."""
+    """systemd finds no fault in the package's units, nor in the drop-in for another worker that the worker's unit shows."""
     wants("systemd-analyze")
     root = extracted(folder)
     for target in pathlib.Path("/lib/systemd/system").glob("*.target"):
         shutil.copy(target, root / "lib/systemd/system")
-    for name in "faxqd.service", "faxqd-worker@ttyS0.service":
+    worker = root / "lib/systemd/system/faxqd-worker@.service"
+    shown = re.findall(r"(?m)^#   (.*)$", worker.read_text())
+    expect(shown[:3] == ["[Unit]", "ConditionFileIsExecutable=", "[Service]"], f"the worker's unit shows {shown}")
+    drop_in = root / "etc/systemd/system/faxqd-worker@ttyS1.service.d/override.conf"
+    drop_in.parent.mkdir(parents=True)
+    drop_in.write_text("\n".join(shown))
+    for name in "faxqd.service", "faxqd-worker@ttyS0.service", "faxqd-worker@ttyS1.service":
         ran = run("systemd-analyze", "verify", "--man=no", f"--root={root}", name)
         expect(ran.returncode == 0 and not ran.stderr, f"of {name} it says {ran.stderr}")
 
 
-@check
+@look
 def log(folder):
     """The log of calls is rotated where the unit's worker writes it, below a folder that is root's alone, and no line is lost."""
     wants("logrotate")
@@ -150,7 +157,7 @@ def stop(process, mode):
         os.killpg(process.pid, signal.SIGKILL)
 
 
-@check
+@look
 def stopped(folder):
     """A call that a worker has begun goes on when the worker is stopped as its unit says, and the next worker waits for its end:
     by worker.sh the page is sent to its end, by efax-worker the whole fax, each page once."""
@@ -344,7 +351,7 @@ def is_removed(root, package):
         expect(not root.path(name).exists(), f"{name} is there behind a purge")
 
 
-@check(by_hand=True)
+@check
 def debian(folder):
     """The Debian package is the same for the same program, and `lintian` finds no error; it is installed, started by its
     unit's own command line as its unit's user, used, upgraded, removed, put back and purged."""
