@@ -1,4 +1,4 @@
-"""What the documents tell a reader to run, taken out of their text."""
+"""The commands that the documents have for their readers, taken out of the text and run."""
 import os
 import random
 import re
@@ -22,7 +22,7 @@ def text_of(name):
 
 
 def section_of(text, heading):
-    """What a document says under a heading."""
+    """The text of a document under a heading."""
     return re.search(rf"(?ms)^## {heading}\n(.*?)(?=^## |\Z)", text)[1]
 
 
@@ -32,7 +32,7 @@ def code(text):
 
 
 def examples(text):
-    """Each command of curl, with what the document says that it prints."""
+    """Each command of curl, with the output that follows it in the document."""
     found, lines = [], code(text)
     for line, following in zip(lines, lines[1:]):
         if line.startswith("curl "):
@@ -42,8 +42,8 @@ def examples(text):
 
 @check
 def curl(folder):
-    """The examples of curl in PROTOCOL.md, from top to bottom, print what it says, on a queue that is started as it says; the first
-    prints the same when it is repeated."""
+    """The examples of curl in PROTOCOL.md, run from top to bottom on a queue that is started as it says, print what it says; the
+    first one prints the same twice."""
     wants("curl", "bash")
     text = text_of("PROTOCOL.md")
     start = shlex.split(re.search(r"for a new queue:\n`(.*?)`", text)[1])
@@ -56,7 +56,7 @@ def curl(folder):
             expect_same(ran.stdout.strip(), wanted, f"{command} prints")
 
         shown = examples(text)
-        expect(len(shown) == text.count("    curl "), "an example of curl stands in no block of code")
+        expect(len(shown) == text.count("    curl "), "an example of curl isn't recognised")
         prints(*shown[0])
         for command, wanted in shown:
             with attempt(command):
@@ -195,7 +195,7 @@ def stubs(folder, pages):
 
 @check
 def efax(folder):
-    """A document that `faxq submit` hands in as OPERATIONS.md says is sent by efax-worker as it is started there; efax is a stub."""
+    """A document that is handed in by `faxq submit` as in OPERATIONS.md is sent by efax-worker as started there; efax is a stub."""
     text, home = text_of("OPERATIONS.md"), folder / "home"
     worker = next(line for line in code(section_of(text, "Faxes by efax")) if "efax-worker" in line)
     submit = next(line for line in code(section_of(text, "Clients")) if line.startswith("faxq submit "))

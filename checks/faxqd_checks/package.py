@@ -88,7 +88,7 @@ def as_installed(folder):
     needs = re.search(r"(?m)^ConditionFileIsExecutable=(/\S+)$", unit)
     expect(needs and f" {needs[1]}\n" in re.search(r"(?m)^ExecStart=.*\n", unit)[0], "the worker's unit begins without its program")
     expect(not (root / needs[1].lstrip("/")).exists(), "the package has a program that takes jobs and sends nothing")
-    expect(needs[1] in (root / "usr/share/doc/faxqd/OPERATIONS.md").read_text(), f"OPERATIONS doesn't tell of {needs[1]}")
+    expect(needs[1] in (root / "usr/share/doc/faxqd/OPERATIONS.md").read_text(), f"OPERATIONS doesn't mention {needs[1]}")
 
 
 @look
@@ -139,9 +139,9 @@ def log(folder):
 
 
 MODEM = """#!/bin/sh
-# Sends pages, a second each, and writes down when each begins and ends.
+# Sends pages, half a second each, and writes down when each begins and ends.
 echo "$1 begins" >> "$SENT"
-case $1 in dial) echo connected ;; page) sleep 1 ;; esac
+case $1 in dial) echo connected ;; page) sleep 0.5 ;; esac
 echo "$1 ends" >> "$SENT"
 """
 
@@ -164,7 +164,7 @@ def stopped(folder):
     wants("curl")
     unit = (TOP / "packaging/faxqd-worker@.service").read_text()
     mode = (re.findall(r"(?m)^KillMode=(\S+)$", unit) or ["control-group"])[-1]
-    settings = {**os.environ, **stubs(folder, 2), "EACH": "1", "WAIT": "0.2", "PAUSE": "0.1", "no_proxy": "*"}
+    settings = {**os.environ, **stubs(folder, 2), "EACH": "0.5", "WAIT": "0.2", "PAUSE": "0.1", "no_proxy": "*"}
     (folder / "modem").write_text(MODEM)
     (folder / "modem").chmod(0o755)
     tiff(folder / "letter.tif", 2)
@@ -354,7 +354,7 @@ def is_removed(root, package):
 @check
 def debian(folder):
     """The Debian package is the same for the same program, and `lintian` finds no error; it is installed, started by its
-    unit's own command line as its unit's user, used, upgraded, removed, put back and purged."""
+    unit's own command line as its unit's user, used, upgraded, removed, put back and purged; then no link leads nowhere."""
     wants("dpkg-deb", "lintian", "mmdebstrap", "objdump", "ip", "systemctl")
     folder.chmod(0o755)
     one, two = build(folder, "1.0"), build(folder, "2.0")
@@ -369,4 +369,4 @@ def debian(folder):
         is_upgraded(root, two)
         is_removed(root, two)
         left = dangling(root) - before
-        expect(not left, f"links that lead nowhere are there behind a purge: {sorted(left)}")
+        expect(not left, f"after a purge links lead nowhere: {sorted(left)}")

@@ -1,4 +1,4 @@
-"""nginx before the queue, with the site that docs/OPERATIONS.md has."""
+"""nginx in front of the queue, with the site of docs/OPERATIONS.md."""
 import base64
 import contextlib
 import http.client
@@ -13,13 +13,13 @@ check = group("site", "Tries the site of docs/OPERATIONS.md in nginx.", "waiting
 
 
 def code_of(text, first, last):
-    """The indented block of a document from the first line that begins so, through the last that is such."""
+    """The indented block of a document from the line that begins with the first pattern to the line that is the last."""
     return re.search(rf"(?ms)^    {first}.*?^    {last}\n", text)[0]
 
 
 class Proxy:
-    """nginx with the site of OPERATIONS.md, where only addresses and the places of files are others. Its users have the
-    password `secret`."""
+    """nginx with the site of OPERATIONS.md, in which only addresses and paths of files are replaced. The password of its users is
+    `secret`."""
 
     def __init__(self, folder, page, *users):
         self.folder, self.port, self.log, self.process = folder, free_port(), folder / "fax.log", None
@@ -54,7 +54,7 @@ class Proxy:
                 f"http {{ {places} types {{ text/html html; }}\n{logs}{site}}}\n")
 
     def start(self, queue):
-        """Runs nginx before a queue at this port, anew where it runs."""
+        """Starts nginx in front of a queue at this port, or starts it again."""
         self.stop()
         (self.folder / "nginx.conf").write_text(self.configuration(queue))
         # `daemon off` has nginx end with its workers when it is told to, and not when it is killed.
@@ -165,7 +165,7 @@ def workers(proxy):
 
 
 def page(proxy):
-    """The page is at the site's front, and tells a browser its login."""
+    """/ leads to the page, and the page's reply names the login."""
     asked = Asked(proxy, "GET", "/", "desk")
     expect((asked.status, asked.fields["Location"].partition(str(proxy.port))[2]) == (302, "/office.html"),
            f"/ is answered {asked.status}, {asked.fields['Location']}")

@@ -46,7 +46,7 @@ def groups_of_calls():
         if line.startswith("@"):
             members = found.setdefault(line.strip(), [])
         elif not line.startswith(" "):
-            members = []  # the group has ended; behind the last one stand the calls that no group has
+            members = []  # the group has ended; calls without a group follow the last one
         elif not line.strip().startswith("#"):
             members.append(line.strip())
     return found
