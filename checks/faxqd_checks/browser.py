@@ -7,14 +7,14 @@ import json
 import os
 import pathlib
 import re
-import shutil
 import socket
 import sqlite3
 import subprocess
 import threading
 import time
 
-from .shared import MANY, PATIENCE, Peer, Server, TOP, Wrong, expect, free_port, is_whole, rows_of_copy
+from .site import Proxy
+from .shared import MANY, PATIENCE, Peer, Server, Wrong, free_port, is_whole, rows_of_copy
 
 ELEMENT = "element-6066-11e4-a52e-4f735466cecf"  # the key of an element in WebDriver
 ENTER = "\ue007"
@@ -75,41 +75,18 @@ class Office:
     """The queue, the line to it, and nginx before both."""
 
     def __init__(self, page, folder):
-        self.folder, self.ends, self.port, self.log = folder, contextlib.ExitStack(), free_port(), folder / "fax.log"
+        self.folder, self.ends = folder, contextlib.ExitStack()
+        self.proxy = Proxy(folder, page, "desk")
+        self.port, self.log = self.proxy.port, self.proxy.log
         (folder / "setup").write_text("Modem: ttyS0\n")
         (folder / "controls").write_text("^666$\n  RejectNotice = Not to them\n")
-        (folder / "www").mkdir()
-        shutil.copy(page, folder / "www/office.html")
-        folder.chmod(0o755)
-
-    def site(self, port):
-        """The site of OPERATIONS.md, with other places for its files and ports."""
-        text = (TOP / "docs/OPERATIONS.md").read_text()
-        site = re.search(r"(?ms)^    server \{\n.*?^    \}\n", text)[0]
-        logs = re.search(r"(?m)^    log_format fax .*;\n    access_log .*;\n", text)[0]
-        for old, new in (("443", f"127.0.0.1:{self.port}"), ("/etc/nginx/fax.pem", f"{self.folder}/pem"),
-                         ("/etc/nginx/fax.key", f"{self.folder}/key"), ("/etc/nginx/fax.users", f"{self.folder}/users"),
-                         ("127.0.0.1:4559", f"127.0.0.1:{port}"), ("/usr/local/share/faxqd", f"{self.folder}/www")):
-            expect(site.count(old) == 1, f"the site of OPERATIONS.md hasn't {old} once")
-            site = site.replace(old, new)
-        logs = re.sub(r"access_log \S+", f"access_log {self.log}", logs)
-        return f"""pid {self.folder}/pid; error_log {self.folder}/errors; events {{}} daemon off; user root;
-            http {{ client_body_temp_path {self.folder}/body; proxy_temp_path {self.folder}/proxy;
-            fastcgi_temp_path {self.folder}/f; uwsgi_temp_path {self.folder}/u; scgi_temp_path {self.folder}/s;
-            types {{ text/html html; }} {logs} {site} }}"""
 
     def __enter__(self):
-        made = subprocess.run(["openssl", "req", "-x509", "-newkey", "ec", "-pkeyopt", "ec_paramgen_curve:P-256", "-nodes", "-keyout",
-                               self.folder / "key", "-out", self.folder / "pem", "-days", "2", "-subj", "/CN=localhost"],
-                              capture_output=True)
-        expect(made.returncode == 0, made.stderr)
-        secret = subprocess.run(["openssl", "passwd", "-apr1", "secret"], capture_output=True, text=True).stdout.strip()
-        (self.folder / "users").write_text(f"desk:{secret}\n")
         server = self.ends.enter_context(Server(self.folder / "queue.db", *MANY, "--setup", self.folder / "setup", "--controls",
                                                 self.folder / "controls"))
         self.queue = server.port
         self.line = Line(self.queue)
-        self.nginx = self.ends.enter_context(contextlib.ExitStack())
+        self.ends.callback(self.proxy.stop)
         self.through(self.line.port)
         return self
 
@@ -119,13 +96,7 @@ class Office:
 
     def through(self, port):
         """nginx asks this port."""
-        self.nginx.close()
-        (self.folder / "nginx.conf").write_text(self.site(port))
-        # `daemon off` has nginx end with its workers when it is told to, and not when it is killed.
-        process = subprocess.Popen(["nginx", "-c", self.folder / "nginx.conf", "-p", self.folder], stderr=subprocess.DEVNULL)
-        self.nginx.callback(process.wait)
-        self.nginx.callback(process.terminate)
-        listens(self.port)
+        self.proxy.start(port)
 
     def rows(self, text):
         return rows_of_copy(self.folder / "queue.db", text)

@@ -6,10 +6,11 @@ from .files import kinds
 from .runner import group
 from .shared import TOP, attempt, expect, post, run, said, wants
 
-check = group("manuals", "Compares man/ with each command, option, default and fault that the program has, and so the words "
-              "that the shell completes.", "waiting")
+check = group("manuals", "Compares man/ with each command, option, default and fault that the program and faxq have, and so the "
+              "words that the shell completes.", "waiting")
 COMMANDS = TOP / "man/faxqd.8"
 FORMATS = TOP / "man/faxqd.5"
+DESK = TOP / "man/faxq.1"
 COMPLETION = TOP / "man/completion.bash"
 FAXQ = TOP / "examples/faxq"
 
@@ -80,6 +81,42 @@ def faxq(folder):
 
 
 @check
+def faxq_page(folder):
+    """The manual of faxq has each command, each option with its default, each variable and each exit status."""
+    manual, source = DESK.read_text(), FAXQ.read_text()
+    names = set(re.findall(r'command\("(\w+)"', source)) | {"suspend", "resume", "kill"}
+    with attempt("the commands"):
+        expect(names == set(re.findall(r"(?m)^\.Ss (\w+)$", manual)), f"the manual hasn't the commands {sorted(names)}")
+    general = manual[:manual.index(".Ss")]
+    is_told(general, "faxq", set(options_of(told_by(FAXQ, "--help").stdout)) - {"-h"})
+    for name in sorted(names):
+        with attempt(name):
+            part = re.search(rf"(?ms)^\.Ss {name}$(.*?)^\.S[hs]", manual)[1]
+            expect(part.startswith(f"\n.Nm\n.Cm {name}\n"), f"the manual doesn't show {name}")
+            is_told(part, name, set(options_of(told_by(FAXQ, name, "--help").stdout)) - {"-h"})
+    with attempt("defaults"):
+        defaults = re.findall(r'"(--\w+)",(?:(?!"--).)*?default=(?:os\.environ\.get\("(\w+)"(?:, "?([^")]+))?|(\d+))', source, re.S)
+        expect(len(defaults) >= 5, f"faxq has the defaults {defaults}")
+        for option, variable, value, number in defaults:
+            item = re.search(rf"(?ms)^\.It Fl {option[1:]}\b(.*?)(?=^\.It|^\.El)", manual)[1]
+            expect(not variable or f"\n.Ev {variable} ,\n" in item, f"the manual hasn't the variable of {option}")
+            expect(re.search(rf"(?ms)^Without it,.*{re.escape(value or number)}", item), f"the manual has another default of {option}")
+    variables = set(re.findall(r'environ\.get\("(\w+)"', source))
+    told = set(re.search(r"(?m)^\.It Ev (.*)$", manual)[1].split(" , "))
+    expect(told == variables, f"the manual has the variables {sorted(told)}, and faxq {sorted(variables)}")
+    statuses, told = re.findall(r"\b\d\b", re.search(r"It ends with .*", source)[0]), re.findall(r"(?m)^\.It (\d)$", manual)
+    expect(told == statuses, f"the manual has the statuses {told}, and faxq {statuses}")
+
+
+def is_told(part, name, options):
+    """This part of a manual has just these options, in its synopsis and as items."""
+    shown = {f"-{one}" for one in re.findall(r"(?m)^\.Op Fl (\S+)", part)}
+    expect(shown == options, f"{name} has the options {sorted(options)}, and the manual shows {sorted(shown)}")
+    for option in options:
+        expect(re.search(rf"(?m)^\.It Fl {option[1:]}\b", part), f"the manual doesn't say what {name} {option} is")
+
+
+@check
 def formats(folder):
     """The manual of the files has each fault and each name that the program knows, and its examples are taken."""
     manual = FORMATS.read_text()
@@ -102,8 +139,8 @@ def formats(folder):
 def lint(folder):
     """mandoc finds nothing to say about the manuals."""
     wants("mandoc")
-    for page in COMMANDS, FORMATS:
-        # Where they aren't installed, each is said not to be found by the other.
+    for page in COMMANDS, FORMATS, DESK:
+        # Where they aren't installed, each is reported as not found by the others.
         found = [line for line in told_by("mandoc", "-T", "lint", page).stdout.splitlines()
-                 if not re.search(r"referenced manual not found: Xr faxqd [58]( |$)", line)]
+                 if not re.search(r"referenced manual not found: Xr (faxqd [58]|faxq 1)( |$)", line)]
         expect(not found, f"mandoc says {found}")

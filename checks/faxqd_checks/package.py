@@ -1,15 +1,26 @@
-"""The Debian package, in a throwaway root of Debian's own packages. As root: it wants dpkg-deb, lintian, mmdebstrap and
-iproute2, and a mirror of Debian that apt reaches. The program is a built one, and no script. It takes one to two minutes."""
+"""The Debian package: what is in it, and, by hand, a throwaway root of Debian's own packages that it is installed in. The second
+needs root, dpkg-deb, lintian, mmdebstrap, iproute2 and systemctl, and a mirror of Debian that apt reaches; the program is a built
+one, and no script; it takes one to two minutes."""
 import contextlib
 import os
+import pathlib
+import re
 import shutil
+import signal
 import subprocess
 import time
 
+from .documents import stubs
+from .faxq import tiff
 from .runner import group
-from .shared import TOP, expect, said, wants, within
+from .shared import (CLOSE, EXAMPLES, MANY, Server, TOP, answer_to, attempt, expect, expect_same, get, post, reply_bytes,
+                     run as run_program, said, wants, within)
 
+look = group("packaged", "Looks at what is in the Debian package, and how its worker's unit ends.", "waiting")
 check = group("package", "Builds the Debian package, and tries it in a root of Debian's packages.", by_hand=True)
+OLD_FORM = "0~20261129.fffffff"  # the greatest version of that day in the form that packages had before
+MOMENTS = "2026-11-29T00:00:00Z", "2026-11-29T00:00:01Z", "2026-11-29T13:00:00Z", "2026-11-30T00:00:00Z"
+NOBODY = 65534
 
 
 def run(*words, **more):
@@ -21,6 +32,176 @@ def done(*words, **more):
     expect(ran.returncode == 0, f"{' '.join(map(str, words[:4]))} ends with {ran.returncode}: {ran.stdout[-500:]}{ran.stderr[-1500:]}")
     return ran.stdout
 
+
+def versions(folder):
+    """The version of a package of each of these moments, by packages of another program that are built in a repository of their
+    own."""
+    for name in "packaging", "examples", "man", "docs":
+        shutil.copytree(TOP / name, folder / name)
+    git = "git", "-C", folder, "-c", "user.name=check", "-c", "user.email=check@example.org"
+    done(*git, "init", "--quiet")
+    done(*git, "add", ".")
+    for moment in MOMENTS:
+        done(*git, "commit", "--quiet", "--allow-empty", "--message", moment, env={**os.environ, "GIT_COMMITTER_DATE": moment})
+        built = done(folder / "packaging/build", "/bin/true", folder / "out")
+        yield re.search(r"faxqd_(.*?)_\w+\.deb'", built)[1]
+
+
+@look
+def grows(folder):
+    """The version of a later commit is greater, also within a day, and than each in the form that it had before."""
+    wants("dpkg-deb", "objdump", "git")
+    found = [OLD_FORM, *versions(folder)]
+    for one, two in zip(found, found[1:]):
+        expect(run("dpkg", "--compare-versions", one, "lt", two).returncode == 0, f"{two} isn't greater than {one}")
+
+
+def extracted(folder):
+    """The files of a package, whose program isn't looked at."""
+    wants("dpkg-deb", "objdump", "git")
+    done(TOP / "packaging/build", "/bin/true", folder / "out", env={**os.environ, "VERSION": "1.0"})
+    package, = (folder / "out").glob("*.deb")
+    done("dpkg-deb", "--raw-extract", package, folder / "root")
+    return folder / "root"
+
+
+@look
+def as_installed(folder):
+    """As it is installed no rule refuses or delays a fax, and each example rule is there to be taken; what an administrator may
+    change is kept by an upgrade; no worker begins before an office's own program is there."""
+    root = extracted(folder)
+    controls = root / "etc/faxqd/office.controls"
+    words = "--setup", root / "etc/faxqd/office.setup", "--controls", controls
+    asked = [post("/jobs", place, f"number:{number}\ntotpages:9999\n") for place, number in
+             enumerate(("110", "911", "+14155550100", "5550111", "5550112"), 1)]
+    asked += [post("/modems/ttyS0/next", 1, "", "ttyS0"), post("/modems/ttyS1/next", 1, "", "ttyS1")]
+    status, out, err, _ = run_program("replay", *words, input=b"".join(asked))
+    expect((status, err) == (0, b""), f"with the package's files replay ends with {status}, and says {err!r}")
+    heads = [reply.partition(b"\r\n")[0] for reply in reply_bytes(out)]
+    expect(heads == 5 * [b"HTTP/1.1 201 Created"] + 2 * [b"HTTP/1.1 200 OK"], f"with the package's files faxes get {heads}")
+    expect(b'"grant":2,"job":2' in out, f"with the package's files a fax waits: {out[-300:]!r}")
+    rules = [line for line in (TOP / "examples/office.controls").read_text().split("\n") if line and line[0] != "#"]
+    expect(rules and all(f"\n#{rule}\n" in controls.read_text() for rule in rules), "an example rule isn't in the package")
+    kept = set((root / "DEBIAN/conffiles").read_text().split())
+    expect(kept == {f"/{file.relative_to(root)}" for file in root.glob("etc/**/*") if file.is_file()}, f"conffiles are {kept}")
+    unit = (root / "lib/systemd/system/faxqd-worker@.service").read_text()
+    needs = re.search(r"(?m)^ConditionFileIsExecutable=(/\S+)$", unit)
+    expect(needs and f" {needs[1]}\n" in re.search(r"(?m)^ExecStart=.*\n", unit)[0], "the worker's unit begins without its program")
+    expect(not (root / needs[1].lstrip("/")).exists(), "the package has a program that takes jobs and sends nothing")
+    expect(needs[1] in (root / "usr/share/doc/faxqd/OPERATIONS.md").read_text(), f"OPERATIONS doesn't mention {needs[1]}")
+
+
+@look
+def units(folder):
+    """systemd finds no fault in the package's units, nor in the drop-in for another worker that the worker's unit shows."""
+    wants("systemd-analyze")
+    root = extracted(folder)
+    for target in pathlib.Path("/lib/systemd/system").glob("*.target"):
+        shutil.copy(target, root / "lib/systemd/system")
+    worker = root / "lib/systemd/system/faxqd-worker@.service"
+    shown = re.findall(r"(?m)^#   (.*)$", worker.read_text())
+    expect(shown[:3] == ["[Unit]", "ConditionFileIsExecutable=", "[Service]"], f"the worker's unit shows {shown}")
+    drop_in = root / "etc/systemd/system/faxqd-worker@ttyS1.service.d/override.conf"
+    drop_in.parent.mkdir(parents=True)
+    drop_in.write_text("\n".join(shown))
+    for name in "faxqd.service", "faxqd-worker@ttyS0.service", "faxqd-worker@ttyS1.service":
+        ran = run("systemd-analyze", "verify", "--man=no", f"--root={root}", name)
+        expect(ran.returncode == 0 and not ran.stderr, f"of {name} it says {ran.stderr}")
+
+
+@look
+def log(folder):
+    """The log of calls is rotated where the unit's worker writes it, below a folder that is root's alone, and no line is lost."""
+    wants("logrotate")
+    folder.chmod(0o755)
+    root, private, logs = extracted(folder), folder / "private", folder / "log"
+    private.mkdir(mode=0o700)
+    (private / "faxqd").mkdir(mode=0o755)
+    logs.symlink_to("private/faxqd")
+    if os.getuid() == 0:
+        os.chown(private / "faxqd", NOBODY, NOBODY)
+    unit = (root / "lib/systemd/system/faxqd-worker@.service").read_text()
+    expect("\nDynamicUser=yes\n" in unit and "\nLogsDirectory=faxqd\n" in unit, "the worker's log isn't where this check has it")
+    file = re.search(r"LOG=(/\S+)", unit)[1]
+    rules = folder / "logrotate"
+    rules.write_text((root / "etc/logrotate.d/faxqd").read_text().replace("/var/log/faxqd", str(logs)))
+    rotate = "logrotate", "--verbose", "--force", "--state", folder / "state", rules
+    ran = run(*rotate)
+    expect(ran.returncode == 0 and "error" not in ran.stderr, f"without a log logrotate says {ran.stderr}")
+    calls = pathlib.Path(file.replace("/var/log/faxqd", str(logs)))
+    for number in 1, 2, 3:
+        with open(calls, "a") as written:  # as worker.sh does it, which opens the file for each line
+            written.write(f"call {number}\n")
+        ran = run(*rotate)
+        expect(ran.returncode == 0 and "error" not in ran.stderr, f"logrotate says {ran.stderr}")
+    there = {one.name: done("zcat", "--force", one) for one in logs.iterdir()}
+    expect_same(there, {f"{calls.name}.1": "call 3\n", f"{calls.name}.2.gz": "call 2\n", f"{calls.name}.3.gz": "call 1\n"}, "the logs")
+
+
+MODEM = """#!/bin/sh
+# Sends pages, half a second each, and writes down when each begins and ends.
+echo "$1 begins" >> "$SENT"
+case $1 in dial) echo connected ;; page) sleep 0.5 ;; esac
+echo "$1 ends" >> "$SENT"
+"""
+
+
+def stop(process, mode):
+    """Stops the processes of a unit as systemd.kill(5) says of this KillMode=."""
+    if mode == "control-group":
+        os.killpg(process.pid, signal.SIGTERM)
+    else:
+        process.terminate()
+    process.wait()
+    if mode == "mixed":
+        os.killpg(process.pid, signal.SIGKILL)
+
+
+@look
+def stopped(folder):
+    """A call that a worker has begun goes on when the worker is stopped as its unit says, and the next worker waits for its end:
+    by worker.sh the page is sent to its end, and again since nobody reports it; by efax-worker the whole fax, each page once."""
+    wants("curl")
+    unit = (TOP / "packaging/faxqd-worker@.service").read_text()
+    mode = (re.findall(r"(?m)^KillMode=(\S+)$", unit) or ["control-group"])[-1]
+    settings = {**os.environ, **stubs(folder, 2), "EACH": "0.5", "WAIT": "0.2", "PAUSE": "0.1", "no_proxy": "*"}
+    (folder / "modem").write_text(MODEM)
+    (folder / "modem").chmod(0o755)
+    tiff(folder / "letter.tif", 2)
+    (folder / "setup").write_text("Modem: ttyS0\nJobReqProto: 0\n")
+    for name, words in ("worker.sh", [folder / "modem"]), ("efax-worker", [folder, "-d", "/dev/null"]):
+        sent = folder / name
+        sent.mkdir()
+        with attempt(name), Server(sent / "queue.db", *MANY, "--setup", folder / "setup") as server:
+            settings |= {"FAXQD": f"http://127.0.0.1:{server.port}", "SENT": str(sent / "sent")}
+            fax = f"number:5550111\ntotpages:2\ntiff:0::{folder}/letter.tif\n"
+            expect(answer_to(server.port, post("/jobs", 1, fax, fields=CLOSE))[0] == 201, "the fax isn't accepted")
+            def begin():
+                return subprocess.Popen([EXAMPLES / name, "ttyS0", sent / "kept", *words], env=settings, stdin=subprocess.DEVNULL,
+                                        start_new_session=True)
+            def has(what):
+                return (sent / "sent").exists() and what in (sent / "sent").read_text()
+            process = begin()
+            try:
+                within("a page is under way", lambda: has("page begins") or has("0001.tif"))
+                time.sleep(0.2)
+                stop(process, mode)
+                under_way = not has("page ends")
+                process = begin()
+                within("the job is done", lambda: b"\nstate:7\n" in answer_to(server.port, get("/jobs/1", CLOSE))[1])
+            finally:
+                os.killpg(process.pid, signal.SIGKILL)
+                process.wait()
+            happened, job = (sent / "sent").read_text().split("\n"), answer_to(server.port, get("/jobs/1", CLOSE))[1]
+            if name == "efax-worker":
+                expect(happened == ["0001.tif", "0002.tif", ""] and b"\ntotdials:1\n" in job, f"the pages {happened} are sent: {job}")
+            else:
+                begun = happened.index("page begins")
+                expect(happened[begun + 1] == "page ends", f"a page is broken off, or the next worker doesn't wait: {happened}")
+                expect(not under_way or happened.count("page begins") == 3, f"a page that nobody reported isn't sent again: {happened}")
+
+
+# ---- in a root of Debian's packages
 
 def build(folder, version):
     done(TOP / "packaging/build", said.program, folder, env={**os.environ, "VERSION": version})
@@ -101,25 +282,37 @@ def is_installed(root, package):
     folder = root.path("/var/lib/faxqd").stat()
     faxqd = int(root.does("id", "-u", "faxqd"))
     expect((folder.st_mode & 0o777, folder.st_uid) == (0o700, faxqd) and faxqd, "the queue's folder isn't the user's alone")
-    for page in ("man5/faxqd.5.gz", "man8/faxqd.8.gz"):
+    for page in ("man1/faxq.1.gz", "man5/faxqd.5.gz", "man8/faxqd.8.gz"):
         expect(root.path(f"/usr/share/man/{page}").exists(), f"{page} isn't there")
 
 
+def own_program(root):
+    """The office's own program of its modems."""
+    modem = root.path("/etc/faxqd/modem")
+    expect(not modem.exists(), "the package has a modem's program")
+    modem.write_text("#!/bin/sh\necho \"$@\" >> /tmp/did\n[ \"$1\" != dial ] || echo connected\n")
+    modem.chmod(0o755)
+
+
+def dangling(root):
+    """The links of the root that lead nowhere."""
+    return set(root.does("find", "/", "-xdev", "-path", "/proc", "-prune", "-o", "-xtype", "l", "-print").split("\n"))
+
+
 def is_used(root):
-    """A fax is handed in, and the worker sends it, where its number may be called now."""
+    """A fax is handed in, and the worker sends it."""
     with root.serving():
         expect(root.asks("submit", "5550111", "--pages", "2") == "1\n", "the first fax isn't job 1")
         shown = root.asks("why", "1", "--setup", "/etc/faxqd/office.setup", "--controls", "/etc/faxqd/office.controls")
-        expect(shown.startswith("job 1 is ready") or shown.startswith("job 1 waits"), shown)
+        expect(shown.startswith("job 1 is ready"), shown)
         worker, = [line.partition("=")[2] for line in root.path("/lib/systemd/system/faxqd-worker@.service").read_text().split("\n")
                    if line.startswith("ExecStart=")]
-        root.path("/etc/faxqd/modem").write_text("#!/bin/sh\necho \"$@\" >> /tmp/did\n[ \"$1\" != dial ] || echo connected\n")
+        own_program(root)
         with subprocess.Popen(root.inside("env", "WAIT=0.2", "LOG=/tmp/calls", *worker.replace("%i", "ttyS0").split()),
                               stdin=subprocess.DEVNULL) as process:
             try:
-                if "waits for the hours" not in shown:
-                    within("the worker sends it", lambda: "is done: 2 of 2 pages" in root.asks("status", "1"), pause=0.2)
-                    expect(root.path("/tmp/calls").read_text().count("\tSEND\t") == 1, "the worker's log hasn't the call")
+                within("the worker sends it", lambda: "is done: 2 of 2 pages" in root.asks("status", "1"), pause=0.2)
+                expect(root.path("/tmp/calls").read_text().count("\tSEND\t") == 1, "the worker's log hasn't the call")
             finally:
                 process.kill()
 
@@ -128,7 +321,9 @@ def is_upgraded(root, package):
     """What the office changed stays, and so does the queue; a typo is told before the service starts."""
     setup = root.path("/etc/faxqd/office.setup")
     setup.write_text(setup.read_text() + "Modem: ttyS2\n")
+    done("systemctl", f"--root={root.place}", "enable", "faxqd-worker@ttyS0")
     root.install(package)
+    expect(root.path("/etc/faxqd/modem").exists(), "the office's own program is gone")
     expect("Modem: ttyS2" in setup.read_text(), "the changed setup is gone")
     expect("2.0" in root.does("dpkg-query", "--show", "faxqd"), "it isn't upgraded")
     with root.serving():
@@ -152,6 +347,7 @@ def is_removed(root, package):
     root.install(package)
     with root.serving():
         expect(root.asks("submit", "5550113", "--pages", "1") == "3\n", "the queue isn't the one from before")
+    root.path("/etc/faxqd/modem").unlink()
     root.does("dpkg", "--purge", "faxqd")
     for name in "/var/lib/faxqd", "/etc/faxqd", "/usr/lib/faxqd", "/usr/share/doc/faxqd":
         expect(not root.path(name).exists(), f"{name} is there behind a purge")
@@ -160,8 +356,8 @@ def is_removed(root, package):
 @check
 def debian(folder):
     """The Debian package is the same for the same program, and `lintian` finds no error; it is installed, started by its
-    unit's own command line as its unit's user, used, upgraded, removed, put back and purged."""
-    wants("dpkg-deb", "lintian", "mmdebstrap", "objdump", "ip")
+    unit's own command line as its unit's user, used, upgraded, removed, put back and purged; then no link leads nowhere."""
+    wants("dpkg-deb", "lintian", "mmdebstrap", "objdump", "ip", "systemctl")
     folder.chmod(0o755)
     one, two = build(folder, "1.0"), build(folder, "2.0")
     before = one.read_bytes()
@@ -169,7 +365,10 @@ def debian(folder):
     ran = run("lintian", "--allow-root", "--fail-on", "error", one)
     expect(ran.returncode == 0, f"lintian says {ran.stdout}")
     with Root(folder / "root") as root:
+        before = dangling(root)
         is_installed(root, one)
         is_used(root)
         is_upgraded(root, two)
         is_removed(root, two)
+        left = dangling(root) - before
+        expect(not left, f"after a purge links lead nowhere: {sorted(left)}")

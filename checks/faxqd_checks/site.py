@@ -1,0 +1,174 @@
+"""nginx in front of the queue, with the site of docs/OPERATIONS.md."""
+import base64
+import contextlib
+import http.client
+import re
+import ssl
+import subprocess
+
+from .runner import group
+from .shared import CLOSE, EXAMPLES, MANY, Server, TOP, answer_to, expect, free_port, get, is_free, wants, within
+
+check = group("site", "Tries the site of docs/OPERATIONS.md in nginx.", "waiting")
+
+
+def code_of(text, first, last):
+    """The indented block of a document from the line that begins with the first pattern to the line that is the last."""
+    return re.search(rf"(?ms)^    {first}.*?^    {last}\n", text)[0]
+
+
+class Proxy:
+    """nginx with the site of OPERATIONS.md, in which only addresses and paths of files are replaced. The password of its users is
+    `secret`."""
+
+    def __init__(self, folder, page, *users):
+        self.folder, self.port, self.log, self.process = folder, free_port(), folder / "fax.log", None
+        folder.chmod(0o755)
+        (folder / "www").mkdir()
+        (folder / "www/office.html").write_bytes(page.read_bytes())
+        self.does("openssl", "req", "-x509", "-newkey", "ec", "-pkeyopt", "ec_paramgen_curve:P-256", "-nodes", "-keyout",
+                  folder / "key", "-out", folder / "pem", "-days", "2", "-subj", "/CN=localhost")
+        secret = self.does("openssl", "passwd", "-apr1", "secret")
+        (folder / "users").write_text("".join(f"{user}:{secret}\n" for user in users))
+
+    @staticmethod
+    def does(*words):
+        ran = subprocess.run(words, capture_output=True, text=True)
+        expect(ran.returncode == 0, f"{words[0]} says {ran.stderr}")
+        return ran.stdout.strip()
+
+    def configuration(self, queue):
+        """The configuration, for a queue at this port."""
+        text = (TOP / "docs/OPERATIONS.md").read_text()
+        site = code_of(text, r"# Fax-Client has to be", r"\}\n(?=\n)")
+        logs = code_of(text, "log_format fax", r"access_log [^\n]*;")
+        for old, new, times in (("listen 443", f"listen 127.0.0.1:{self.port}", 1), ("/etc/nginx/fax.pem", self.folder / "pem", 1),
+                                ("/etc/nginx/fax.key", self.folder / "key", 1), ("/etc/nginx/fax.users", self.folder / "users", 1),
+                                ("http://127.0.0.1:4559", f"http://127.0.0.1:{queue}", 2),
+                                ("/usr/share/faxqd", self.folder / "www", 1)):
+            expect(site.count(old) == times, f"the site of OPERATIONS.md hasn't {old} {times} times")
+            site = site.replace(old, str(new))
+        logs = re.sub(r"access_log \S+", f"access_log {self.log}", logs)
+        places = " ".join(f"{kind}_temp_path {self.folder}/{kind};" for kind in ("client_body", "proxy", "fastcgi", "uwsgi", "scgi"))
+        return (f"pid {self.folder}/pid; error_log {self.folder}/errors; events {{}} daemon off; user root;\n"
+                f"http {{ {places} types {{ text/html html; }}\n{logs}{site}}}\n")
+
+    def start(self, queue):
+        """Starts nginx in front of a queue at this port, or starts it again."""
+        self.stop()
+        (self.folder / "nginx.conf").write_text(self.configuration(queue))
+        # `daemon off` has nginx end with its workers when it is told to, and not when it is killed.
+        self.process = subprocess.Popen(["nginx", "-c", self.folder / "nginx.conf", "-p", self.folder],
+                                        stdin=subprocess.DEVNULL, stdout=subprocess.DEVNULL, stderr=subprocess.PIPE, text=True)
+        within(self.says, lambda: self.process.poll() is not None or not is_free(self.port))
+        expect(self.process.poll() is None, self.says())
+
+    def says(self):
+        return f"nginx listens; it says {self.process.stderr.read() if self.process.poll() is not None else 'nothing'}"
+
+    def stop(self):
+        if self.process:
+            self.process.terminate()
+            self.process.communicate()
+            self.process = None
+
+
+class Asked:
+    """What nginx answers to a request of a user, with these fields."""
+
+    def __init__(self, proxy, method, path, user=None, body=None, password="secret", fields=()):
+        unknown = ssl._create_unverified_context()
+        door = http.client.HTTPSConnection("127.0.0.1", proxy.port, timeout=20, context=unknown)
+        with contextlib.closing(door):
+            door.putrequest(method, path)
+            if user is not None:
+                login = base64.b64encode(f"{user}:{password}".encode()).decode()
+                door.putheader("Authorization", f"Basic {login}")
+            for name, value in fields:
+                door.putheader(name, value)
+            if body is not None:
+                door.putheader("Content-Length", str(len(body)))
+            door.endheaders(body.encode() if body is not None else None)
+            reply = door.getresponse()
+            self.status, self.fields, self.body = reply.status, reply.headers, reply.read()
+        self.own = self.body.startswith((b'{"', b"   JID"))  # whether it is the queue's own
+
+
+FAX = "number:5550111\ntotpages:1\n"
+
+
+@check
+def recipe(folder):
+    """A request in the login's own name and a GET reach the queue, one in another's name is refused, as is one without the
+    password; /modems and /grants are the workers' alone, however the path is written; and / is the page."""
+    wants("nginx", "openssl")
+    (folder / "setup").write_text("Modem: ttyS0\n")
+    proxy = Proxy(folder, EXAMPLES / "office.html", "desk", "other", "0", "ttyS0")
+    with Server(folder / "queue.db", *MANY, "--setup", folder / "setup") as server:
+        try:
+            proxy.start(server.port)
+            names(proxy)
+            workers(proxy)
+            page(proxy)
+        finally:
+            proxy.stop()
+        listed = answer_to(server.port, get("/jobs", CLOSE))[1].decode()
+        expect(len(listed.splitlines()) == 3, f"of all requests only two are faxes, and the queue has {listed!r}")
+        expect(" R " in listed.splitlines()[1], f"only the worker's question gave a grant, and the queue has {listed!r}")
+
+
+def named(*clients, number):
+    """The fields of a request."""
+    return [*(("Fax-Client", client) for client in clients), ("Fax-Number", str(number))]
+
+
+def is_answered(asked, wanted, own, what):
+    expect((asked.status, asked.own) == (wanted, own), f"{what} is answered {asked.status} {asked.body[:200]!r}")
+
+
+def names(proxy):
+    """Each login speaks for itself alone."""
+    is_answered(Asked(proxy, "POST", "/jobs", "desk", FAX, fields=named("desk", number=1)), 201, True, "a fax in one's own name")
+    is_answered(Asked(proxy, "POST", "/jobs", "0", FAX, fields=named("0", number=1)), 201, True, "a fax of the client 0")
+    is_answered(Asked(proxy, "GET", "/jobs", "desk"), 200, True, "a listing without a client's name")
+    for user, client in (("desk", "other"), ("desk", "0"), ("desk", "Desk"), ("desk", "desk2"), ("desk", "esk"), ("0", "desk"),
+                         ("desk", "desk desk"), ("other", "ttyS0")):
+        asked = Asked(proxy, "POST", "/jobs", user, FAX, fields=named(client, number=2))
+        is_answered(asked, 403, False, f"a fax of {client} under the login {user}")
+    for clients in ("desk", "other"), ("other", "desk"):
+        asked = Asked(proxy, "POST", "/jobs", "desk", FAX, fields=named(*clients, number=2))
+        expect(asked.status in (400, 403), f"a fax of {clients} is answered {asked.status}")
+    is_answered(Asked(proxy, "POST", "/jobs", "desk", FAX, fields=named(number=2)), 400, True, "a fax of nobody")
+    for method, path, body in (("GET", "/jobs", None), ("POST", "/jobs", FAX), ("GET", "/office.html", None)):
+        fields = named("desk", number=2) if method == "POST" else ()
+        is_answered(Asked(proxy, method, path, None, body, fields=fields), 401, False, f"{method} {path} without a login")
+        asked = Asked(proxy, method, path, "desk", body, "secrets", fields)
+        is_answered(asked, 401, False, f"{method} {path} with a wrong password")
+
+
+def workers(proxy):
+    """Only workers ask for work and report, however a path is written."""
+    for path in ("/modems/ttyS0/next", "//modems/ttyS0/next", "/%6dodems/ttyS0/next", "/jobs/../modems/ttyS0/next",
+                 "/./modems/ttyS0/down", "/grants/1/call", "/modems/ttyS0/next?", "/modems/ttyS0/next?x=/jobs"):
+        asked = Asked(proxy, "POST", path, "desk", "{}", fields=named("desk", number=3))
+        is_answered(asked, 403, False, f"a client's POST {path}")
+    for path in "/MODEMS/ttyS0/next", "/jobs/../../modems/ttyS0/next", "/modems", "/jobs/%2e%2e/modems/ttyS0/next":
+        asked = Asked(proxy, "POST", path, "desk", "{}", fields=named("desk", number=3))
+        expect(400 <= asked.status < 500, f"a client's POST {path} is answered {asked.status}")
+    expect(Asked(proxy, "POST", "/modems/ttyS0/next", None, "{}", fields=named("ttyS0", number=1)).status in (401, 403),
+           "a worker without a login is answered")
+    asked = Asked(proxy, "POST", "/modems/ttyS0/next", "ttyS0", "{}", "secrets", named("ttyS0", number=1))
+    is_answered(asked, 401, False, "a worker with a wrong password")
+    asked = Asked(proxy, "POST", "/modems/ttyS0/next", "ttyS0", "", fields=named("ttyS0", number=1))
+    is_answered(asked, 200, True, "a worker's question")
+    expect(b'"grant":1' in asked.body, f"a worker gets {asked.body!r}")
+
+
+def page(proxy):
+    """/ leads to the page, and the page's reply names the login."""
+    asked = Asked(proxy, "GET", "/", "desk")
+    expect((asked.status, asked.fields["Location"].partition(str(proxy.port))[2]) == (302, "/office.html"),
+           f"/ is answered {asked.status}, {asked.fields['Location']}")
+    asked = Asked(proxy, "GET", "/office.html", "desk")
+    expect((asked.status, asked.body) == (200, (EXAMPLES / "office.html").read_bytes()), f"the page is {asked.status}")
+    expect(asked.fields["Fax-Client"] == "desk", f"the page's login is {asked.fields['Fax-Client']}")
