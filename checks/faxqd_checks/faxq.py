@@ -1,7 +1,6 @@
 """`examples/faxq` against `serve`: over examples/bad-line.py each command is done once; killed before it is answered it goes
 on, and makes one job; replies that aren't the queue's own say nothing of a request, and those that have to be mended are told
 at once; `why` says why a job isn't sent; `again` hands in the pages that weren't confirmed."""
-import contextlib
 import json
 import os
 import pathlib
@@ -11,13 +10,12 @@ import ssl
 import struct
 import subprocess
 import sys
-import threading
 import time
 
 from .bad_line import line_to
+from .proxy import Answers, number_of, reply
 from .runner import group
-from .shared import (CLOSE, EXAMPLES, Server, Wrong, answer_to, attempt, expect, free_port, is_whole, option, post,
-                     rows_of_copy, run, wants)
+from .shared import CLOSE, EXAMPLES, Server, Wrong, answer_to, attempt, expect, free_port, option, post, rows_of_copy, run, wants
 
 check = group("faxq", "Has examples/faxq do each command once over a bad line and through stops, say why a job isn't sent, "
               "and take no answer but the queue's own.", "waiting")
@@ -201,47 +199,6 @@ def left_before(folder):
         both = [desk.start(url, "submit", "5550111", "--pages", "1") for _ in "ab"]
         jobs = sorted(int(one.communicate(timeout=PATIENCE)[0]) for one in both)
         expect(jobs == [6, 7], f"two at once are jobs {jobs}")
-
-
-class Answers:
-    """A peer that gives these answers one after the other, the last for ever, and keeps what it was sent."""
-
-    def __init__(self, *answers, tls=None):
-        self.answers, self.seen, self.tls = list(answers), [], tls
-        self.listener = socket.create_server(("127.0.0.1", 0))
-        self.port = self.listener.getsockname()[1]
-        threading.Thread(target=self.serve, daemon=True).start()
-
-    def serve(self):
-        with contextlib.suppress(OSError):
-            while True:
-                peer, _ = self.listener.accept()
-                with contextlib.suppress(OSError), peer:
-                    peer.settimeout(PATIENCE)
-                    if self.tls:
-                        peer = self.tls.wrap_socket(peer, server_side=True)
-                    data = b""
-                    while not is_whole(data):
-                        if not (piece := peer.recv(65536)):
-                            break
-                        data += piece
-                    if not data:
-                        continue
-                    self.seen.append(data)
-                    peer.sendall(self.answers.pop(0) if len(self.answers) > 1 else self.answers[0])
-                    with contextlib.suppress(OSError):
-                        peer.close()
-
-    def __enter__(self):
-        return self
-
-    def __exit__(self, *_):
-        self.listener.close()
-
-
-def reply(status, body, kind="application/json", length=None):
-    return (f"HTTP/1.1 {status} X\r\nContent-Type: {kind}\r\nContent-Length: {len(body) if length is None else length}\r\n"
-            f"\r\n{body}").encode()
 
 
 FAX, TAKEN = ("submit", "5550111", "--pages", "1"), reply(201, '{"job":5}')
