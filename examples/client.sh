@@ -64,9 +64,17 @@ print(*answer)
 END
 }
 
+# not_answered WHAT: tells once what came in place of the queue's answer. What was only lost is told at the third time.
+not_answered() {
+    tries=$((tries + 1))
+    case $text in curl* | 50[234]*) if [ "$tries" -lt 3 ]; then return; fi ;; esac
+    if [ "${text%% *}" != "$seen" ]; then say "$1 isn't answered by the queue: $text; trying again"; fi
+    seen=${text%% *}
+}
+
 # send NUMBER PATH KEY TYPE FILE: sends a request until the queue answers it. $answer and $text have what it says.
 send() {
-    seen=
+    seen='' tries=0
     while
         : > "$folder/reply"
         got=$(curl --silent --show-error --netrc-optional --max-time "$limit" --output "$folder/reply" \
@@ -77,8 +85,7 @@ send() {
         read_reply "$3" "$got" > "$folder/answer" && read -r answer text < "$folder/answer"
         [ "$answer" != accepted ] && [ "$answer" != refused ]
     do
-        if [ "${text%% *}" != "$seen" ]; then say "request $1 isn't answered by the queue: $text; trying again"; fi
-        seen=${text%% *}
+        not_answered "request $1"
         sleep "$pause"
     done
 }

@@ -100,9 +100,17 @@ say() {
     printf 'worker.sh: %s\n' "$1" >&2
 }
 
+# not_answered WHAT: tells once what came in place of the queue's answer. What was only lost is told at the third time.
+not_answered() {
+    tries=$((tries + 1))
+    case $text in curl* | 50[234]*) if [ "$tries" -lt 3 ]; then return; fi ;; esac
+    if [ "${text%% *}" != "$seen" ]; then say "$1 isn't answered by the queue: $text; trying again"; fi
+    seen=${text%% *}
+}
+
 # web PATH [OPTION..]: sends one request until the queue answers it. $folder/answer and $answer have what it says.
 web() {
-    path=$1 seen=
+    path=$1 seen='' tries=0
     shift
     while
         : > "$folder/reply"
@@ -113,8 +121,7 @@ web() {
         read_reply "$path" "$got" > "$folder/answer" && read -r answer text < "$folder/answer"
         [ "$answer" != accepted ] && [ "$answer" != refused ]
     do
-        if [ "${text%% *}" != "$seen" ]; then say "$path isn't answered by the queue: $text; trying again"; fi
-        seen=${text%% *}
+        not_answered "$path"
         sleep "$pause"
     done
 }
