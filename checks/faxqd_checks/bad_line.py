@@ -126,6 +126,7 @@ def faxes(folder):
             office.submits()
             office.start_worker()
             office.is_done()
+            within("the line of the call", lambda: (place / "log").exists() and (place / "log").read_text().endswith("\n"))
             office.is_over()
             wanted = ["hangup", "dial 5550111", "page 1 1", "page 1 2", "page 1 3", "hangup"]
             expect(office.did() == wanted, f"the modem did {office.did()}")

@@ -9,8 +9,8 @@ from .shared import PATIENCE, is_whole
 
 def reply(status, body, kind="application/json", length=None):
     """The bytes of a reply, which may claim another length."""
-    return (f"HTTP/1.1 {status} X\r\nContent-Type: {kind}\r\nContent-Length: {len(body) if length is None else length}\r\n"
-            f"\r\n{body}").encode()
+    length = len(body.encode()) if length is None else length
+    return f"HTTP/1.1 {status} X\r\nContent-Type: {kind}\r\nContent-Length: {length}\r\n\r\n{body}".encode()
 
 
 # What isn't the queue's answer to any request: the replies of proxies, half replies, and JSON of something else.
