@@ -10,7 +10,7 @@ from .proxy import Proxy, STRANGE, number_of, path_of, reply
 from .runner import group
 from .shared import (CLOSE, EXAMPLES, MANY, Server, answer_to, attempt, expect, get, post, rows_of_copy, said, wants, within)
 
-check = group("clients", "Has examples/client.sh, import.sh and fax hand each fax in once, and say what became of it.", "waiting")
+check = group("clients", "Has examples/client.sh, import.sh and fax hand each fax in once, and say what became of it.", "scripts")
 SHELLS = "dash", "bash"
 PATIENCE = 60
 OLD = "170000000000017", "170000000000018", "170000000000019"  # numbers of requests, before all that follow the clock

@@ -211,6 +211,23 @@ def other_requests(folder):
 
 
 @check
+def reused(folder):
+    """A submission that was refused keeps its number when the same words hand it in again; where a late copy was accepted under it
+    meanwhile that is told, and then it gets a new one."""
+    port, desk = free_port(), Desk(folder)
+    url = f"http://127.0.0.1:{port}"
+    with serving(folder, port):
+        desk.fails("refused: rejected", 1, url, "submit", "666", "--pages", "1")
+        number, = [file.name for file in desk.folder.glob("refused/*")]
+        late = answer_to(port, post("/jobs", number, "number:5550111\ntotpages:1\n", "desk", CLOSE))
+        expect(late == (201, b'{"job":1}'), f"a copy is answered {late}")
+        desk.fails("refused: number-reused", 1, url, "submit", "666", "--pages", "1")
+        desk.fails("refused: rejected", 1, url, "submit", "666", "--pages", "1")
+        again = [file.name for file in desk.folder.glob("refused/*")]
+        expect(len(again) == 1 and again != [number], f"{number} was refused, and then {again}")
+
+
+@check
 def logins(folder):
     """What was kept for one login goes out under no other, as a proxy may take the login for the client."""
     def login(name):

@@ -1,7 +1,10 @@
 """examples/worker.sh, with dash and with bash as sh, against what isn't the queue's answer, against refused reports, against
-hostile texts of jobs, and with a modem command that doesn't keep to its words."""
+hostile texts of jobs, and with a modem command that doesn't keep to its words; and examples/efax-worker against the first two,
+with a program in place of efax."""
 import json
 import os
+import re
+import shutil
 import subprocess
 import threading
 import time
@@ -10,8 +13,10 @@ from .proxy import Proxy, STRANGE, number_of, path_of
 from .runner import group
 from .shared import CLOSE, EXAMPLES, MANY, NO_WAITS, Server, answer_to, attempt, expect, get, post, said, wants, within
 
-check = group("worker", "Has examples/worker.sh, with dash and bash, send each page once whatever answers it.", "waiting")
+check = group("worker", "Has examples/worker.sh, with dash and bash, and efax-worker send each page once, whatever answers them.",
+              "scripts")
 SHELLS = "dash", "bash"
+EFAX_WORKER = "efax-worker"
 LONG = 60  # seconds: on a busy machine a start of python3 takes a quarter of a second
 MODEM = """\
 #!/bin/sh
@@ -22,14 +27,31 @@ esac
 """
 
 
+# What stands in place of efax: each call connects, and each page is confirmed.
+EFAX = """\
+#!/bin/sh
+while [ "$1" != -t ]; do shift; done
+echo "dial $2" >> "${0%/*}/did"
+shift 2
+echo 'efax: 1 connected'
+for page; do
+    echo "page 1 $((1${page%.tif} - 10000))" >> "${0%/*}/did"
+    echo "efax: 2 sent -> $page"
+done
+echo 'efax: 3 done, returning 0 (success)'
+"""
+
+
 class Office:
-    """A queue, and a worker with its modem command. A worker that ends is started again, as systemd does."""
+    """A queue, and a worker with its modem command. The worker is worker.sh with a shell, or efax-worker. A worker that ends is started again, as systemd does."""
 
     def __init__(self, folder, shell, instead=None):
         folder.mkdir()
         self.folder, self.shell, self.ends, self.starts, self.number = folder, shell, False, 0, 0
         (folder / "modem").write_text(MODEM)
         (folder / "modem").chmod(0o755)
+        (folder / "efax").write_text(EFAX)
+        (folder / "efax").chmod(0o755)
         (folder / "result").write_text("connected\n")
         (folder / "setup").write_text("Modem: ttyS0\n" + NO_WAITS)
         self.server = Server(folder / "queue.db", "--setup", folder / "setup", *MANY)
@@ -58,11 +80,26 @@ class Office:
     def run(self, **more):
         """Runs the worker once; gives its process."""
         environment = {**os.environ, "LIMIT": "5", "PAUSE": "0.01", "WAIT": "0.1", "FAXQD": self.proxy.url,
-                       "LOG": str(self.folder / "log"), **more}
+                       "LOG": str(self.folder / "log"), "PATH": f"{self.folder}:{os.environ['PATH']}", **more}
+        script = [EXAMPLES / EFAX_WORKER] if self.shell == EFAX_WORKER else [self.shell, EXAMPLES / "worker.sh"]
+        last = self.folder if self.shell == EFAX_WORKER else self.folder / "modem"
+        words = [*script, "ttyS0", self.folder / "ttyS0", last, *(["-d", "x"] if self.shell == EFAX_WORKER else [])]
         with open(self.folder / "errors", "ab") as errors:
-            self.worker = subprocess.Popen([self.shell, EXAMPLES / "worker.sh", "ttyS0", self.folder / "ttyS0",
-                                            self.folder / "modem"], env=environment, stderr=errors, stdin=subprocess.DEVNULL)
+            self.worker = subprocess.Popen(words, env=environment, stderr=errors, stdin=subprocess.DEVNULL)
         return self.worker
+
+    def called(self, *did):
+        """What the modem does for these, with the hang-ups that worker.sh wants before and after."""
+        return list(did) if self.shell == EFAX_WORKER else ["hangup", *did, *(["hangup"] if did else [])]
+
+    def has_kept(self, number, path, body):
+        """The worker before has kept this request; gives what is in its file."""
+        text = json.dumps(body, separators=(",", ":")) if body else ""
+        request = f"{number}\n{path}\n{text}\n"
+        if self.shell == EFAX_WORKER:
+            request = json.dumps({"number": number, "path": path, "body": text or "{}"})
+        (self.folder / "ttyS0/request").write_text(request)
+        return request
 
     def start(self, **more):
         """Runs the worker, again whenever it ends."""
@@ -86,21 +123,21 @@ class Office:
         return (self.folder / "errors").read_text()
 
     def did(self):
-        return (self.folder / "did").read_text().splitlines()
+        return (self.folder / "did").read_text().splitlines() if (self.folder / "did").exists() else []
 
     def is_in(self, state, number=1):
         within(lambda: f"state {state} of {self.job(number)}; the modem did {self.did()}; the worker says {self.errors()}",
                lambda: self.job(number)["state"] == state, LONG)
 
 
-def each_shell(folder, part, **more):
-    """Tries a part with each shell, side by side."""
+def each_shell(folder, part, *more):
+    """Tries a part with each shell, side by side, and with what is named besides."""
     def tried(shell):
-        with attempt(shell), Office(folder / shell, shell, **more) as office:
+        with attempt(shell), Office(folder / shell, shell) as office:
             part(office)
 
     wants(*SHELLS, "curl", "flock")
-    threads = [threading.Thread(target=tried, args=(shell,)) for shell in SHELLS]
+    threads = [threading.Thread(target=tried, args=(shell,)) for shell in (*SHELLS, *more)]
     for thread in threads:
         thread.start()
     for thread in threads:
@@ -125,24 +162,36 @@ class Strange:
         return hand_on()
 
 
+def efax_worker(folder):
+    """efax-worker, with a document of three pages in a folder, on a machine that has what it needs."""
+    if not all(map(shutil.which, ("gs", "tiffcp", "tiffinfo"))):
+        (folder / "document.tif").touch()
+        return []
+    subprocess.run(["gs", "-q", "-dBATCH", "-dNOPAUSE", "-sDEVICE=tiffg3", f"-sOutputFile={folder}/document.tif", "-c",
+                    "showpage showpage showpage"], check=True)
+    return [EFAX_WORKER]
+
+
 @check
 def strange_answers(folder):
     """What isn't the queue's answer to the request, as a proxy's 401, 403, 404, 429, 200 or redirect, isn't taken for one: each
     page is sent once, each request goes out until the queue answers it, the same to the byte, and what came is told once."""
     def part(office):
         office.proxy.instead = Strange(len(STRANGE) if said.all else 3)
-        office.ask("/jobs", "number:5550111\ntotpages:3\n")
+        office.ask("/jobs", "number:5550111\ntotpages:3\ntiff:0::document.tif\n")
+        shutil.copy(folder / "document.tif", office.folder)
         office.start()
         office.is_in("7")
         within("the worker asks for work", lambda: path_of(office.proxy.seen[-1]) == "/modems/ttyS0/next")
-        wanted = ["hangup", "dial 5550111", "page 1 1", "page 1 2", "page 1 3", "hangup"]
-        expect((office.did(), office.starts) == (wanted, 1), f"the modem did {office.did()}, after {office.starts} starts")
+        wanted = office.called("dial 5550111", "page 1 1", "page 1 2", "page 1 3")
+        expect((office.did(), office.starts) == (wanted, 1), f"the modem did {office.did()}, after {office.starts} starts; the worker says {office.errors()}")
         sent = {number_of(data): data for data in office.proxy.seen}
         expect(all(data == sent[number_of(data)] for data in office.proxy.seen), "a request isn't the same when it is sent again")
-        expect("/grants/1/page isn't answered by the queue: 4" in office.errors(), f"it isn't told: {office.errors()!r}")
+        told = re.findall("(?m)^.*isn't answered by the queue.*$", office.errors())
+        expect(told and len(told) <= len(office.proxy.seen), f"it isn't told: {office.errors()!r}")
         expect("\x1b" not in office.errors(), "a strange answer is printed raw")
 
-    each_shell(folder, part)
+    each_shell(folder, part, *efax_worker(folder))
 
 
 # The worker's last request, and whether the worker goes on once the queue has refused it. The queue has a grant of three
@@ -168,19 +217,17 @@ def refused_reports(folder):
         office.ask("/modems/ttyS0/next")
         office.ask("/grants/1/call", {"result": "connected"})
         office.ask("/grants/1/page", {"page": 1})
-        place = office.folder / "ttyS0"
-        place.mkdir()
+        (office.folder / "ttyS0").mkdir()
         for number, (path, body, goes_on) in enumerate(KEPT):
-            request = f"{100 + number}\n{path}\n{json.dumps(body, separators=(',', ':')) if body else ''}\n"
-            with attempt(f"{path} {body}"):
-                kept(office, place, request, path, goes_on)
+            with attempt(f"{office.shell} {path} {body}"):
+                kept(office, number + 100, path, body, goes_on)
 
-    each_shell(folder, part)
+    each_shell(folder, part, EFAX_WORKER)
 
 
-def kept(office, place, request, path, goes_on):
+def kept(office, number, path, body, goes_on):
     """Starts a worker that has kept this request, with a queue that holds it there."""
-    (place / "request").write_text(request)
+    request = office.has_kept(number, path, body)
     (office.folder / "errors").write_text("")
     (office.folder / "did").write_text("")
     office.proxy.instead = lambda data, hand_on: b"" if path_of(data).endswith("/ttyS0/next") else hand_on()
@@ -191,11 +238,12 @@ def kept(office, place, request, path, goes_on):
         process.wait()
     else:
         expect(process.wait(20) == 1, f"it ends with {process.returncode}")
-        expect((place / "request").read_text() == request, "the request isn't kept")
+        expect((office.folder / "ttyS0/request").read_text() == request, "the request isn't kept")
         expect(not any(path_of(data).endswith("/next") for data in office.proxy.seen), "it goes on")
     office.proxy.seen.clear()
-    expect(f"worker.sh: {path}, sent again, is refused: {{" in office.errors(), f"it says {office.errors()!r}")
-    expect(office.did() == ["hangup"], f"the modem did {office.did()}")
+    silent = office.shell == EFAX_WORKER and not path.startswith("/grants/")  # it asks anew at once
+    expect(f": {path}, sent again, is refused: {{" in office.errors() or silent, f"it says {office.errors()!r}")
+    expect(office.did() == office.called(), f"the modem did {office.did()}")
 
 
 @check
