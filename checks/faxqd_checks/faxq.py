@@ -224,7 +224,7 @@ def reused(folder):
         desk.fails("refused: number-reused", 1, url, "submit", "666", "--pages", "1")
         desk.fails("refused: rejected", 1, url, "submit", "666", "--pages", "1")
         again = [file.name for file in desk.folder.glob("refused/*")]
-        expect(len(again) == 1 and again != [number], f"{number} was refused, and then {again}")
+        expect(len(again) == 2 and number not in again, f"{number} was refused, and then {again}")
 
 
 @check
