@@ -2,6 +2,7 @@
 queue that lets nobody in."""
 import contextlib
 import os
+import re
 import ssl
 import subprocess
 import time
@@ -87,6 +88,22 @@ def strange_answers(folder):
                     first = {number_of(data): data for data in reversed(sent)}
                     expect(all(data == first[number_of(data)] for data in sent), "a request isn't the same when it is sent again")
     expect(rows_of_copy(folder / "queue.db", "SELECT count(*) FROM jobs") == [(4,)], "there are other jobs than four")
+
+
+@check
+def told_once(folder):
+    """What comes again and again in place of the queue's answer is told once, and a reply that is lost once or twice isn't."""
+    wants(*SHELLS, "curl", "flock")
+    strange = [b"", b""] + [reply(401, "<html>", "text/html")] * 4
+    left = []
+    (folder / "file").write_text(GOOD)
+    with queue(folder, lambda data, hand_on: left.pop(0) if left else hand_on()) as (server, proxy):
+        for shell in SHELLS:
+            for kind in "client.sh", "import.sh":
+                left[:] = strange
+                status, out, err = ran([shell, EXAMPLES / kind, folder / f"{kind}-{shell}", folder / "file"], proxy.url, CLIENT=f"{kind}-{shell}")
+                expect(status == 0 and re.fullmatch(f"{kind}: request \\d+ isn't answered by the queue: 401 text/html; trying again\n", err),
+                       f"{shell} {kind} ends with {status}, and says {err!r}")
 
 
 @check

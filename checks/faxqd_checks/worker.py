@@ -9,7 +9,7 @@ import subprocess
 import threading
 import time
 
-from .proxy import Proxy, STRANGE, number_of, path_of
+from .proxy import Proxy, STRANGE, number_of, path_of, reply
 from .runner import group
 from .shared import CLOSE, EXAMPLES, MANY, NO_WAITS, Server, answer_to, attempt, expect, get, post, said, wants, within
 
@@ -187,11 +187,29 @@ def strange_answers(folder):
         expect((office.did(), office.starts) == (wanted, 1), f"the modem did {office.did()}, after {office.starts} starts; the worker says {office.errors()}")
         sent = {number_of(data): data for data in office.proxy.seen}
         expect(all(data == sent[number_of(data)] for data in office.proxy.seen), "a request isn't the same when it is sent again")
-        told = re.findall("(?m)^.*isn't answered by the queue.*$", office.errors())
-        expect(told and len(told) <= len(office.proxy.seen), f"it isn't told: {office.errors()!r}")
+        expect("isn't answered by the queue" in office.errors(), f"it isn't told: {office.errors()!r}")
         expect("\x1b" not in office.errors(), "a strange answer is printed raw")
 
     each_shell(folder, part, *efax_worker(folder))
+
+
+@check
+def told_once(folder):
+    """What comes again and again in place of the queue's answer is told once, and a reply that is lost once or twice isn't."""
+    def part(office):
+        count = iter(range(100))
+
+        def instead(data, hand_on):
+            number = next(count)
+            return b"" if number < 2 else reply(401, "<html>", "text/html") if number < 10 else hand_on()
+
+        office.proxy.instead = instead
+        office.start()
+        within("the queue is asked", lambda: len(office.proxy.seen) > 11, LONG)
+        told = [line.split(": ", 1)[1] for line in office.errors().splitlines()]
+        expect(told == ["/modems/ttyS0/next isn't answered by the queue: 401 text/html; trying again"], f"it says {told}")
+
+    each_shell(folder, part, EFAX_WORKER)
 
 
 # The worker's last request, and whether the worker goes on once the queue has refused it. The queue has a grant of three
@@ -230,7 +248,8 @@ def kept(office, number, path, body, goes_on):
     request = office.has_kept(number, path, body)
     (office.folder / "errors").write_text("")
     (office.folder / "did").write_text("")
-    office.proxy.instead = lambda data, hand_on: b"" if path_of(data).endswith("/ttyS0/next") else hand_on()
+    office.proxy.listener.close()  # a message of the worker before may still be on its way there
+    office.proxy = Proxy(office.server.port, lambda data, hand_on: b"" if path_of(data).endswith("/ttyS0/next") else hand_on())
     process = office.run()
     if goes_on:
         within("it asks for work", lambda: any(path_of(data).endswith("/ttyS0/next") for data in office.proxy.seen))
@@ -240,7 +259,6 @@ def kept(office, number, path, body, goes_on):
         expect(process.wait(20) == 1, f"it ends with {process.returncode}")
         expect((office.folder / "ttyS0/request").read_text() == request, "the request isn't kept")
         expect(not any(path_of(data).endswith("/next") for data in office.proxy.seen), "it goes on")
-    office.proxy.seen.clear()
     silent = office.shell == EFAX_WORKER and not path.startswith("/grants/")  # it asks anew at once
     expect(f": {path}, sent again, is refused: {{" in office.errors() or silent, f"it says {office.errors()!r}")
     expect(office.did() == office.called(), f"the modem did {office.did()}")
@@ -251,7 +269,7 @@ def hostile_status(folder):
     """Lines of an import's `status` that look like other lines of the job are no more than text: nothing of them is run, and the
     worker reports the pages that were confirmed."""
     def part(office):
-        status = f"status:old\\\nnpages:+a[$(touch {office.folder}/ran)]\\\nnpages:7\\\n\"grant\":7,\"stop\":true\n"
+        status = f"status:old\\\n\"grant\":7,\"stop\":true\\\nnpages:+a[$(touch {office.folder}/ran)]\n"
         office.ask("/imports", f"number:5550111\ntotpages:5\nnpages:1\n{status}")
         office.ask("/modems/ttyS0/next")
         office.ask("/grants/1/call", {"result": "connected"})
