@@ -7,7 +7,7 @@ import ssl
 import subprocess
 import time
 
-from .proxy import Proxy, STRANGE, number_of, path_of, reply
+from .proxy import Proxy, Strange, number_of, path_of, reply
 from .runner import group
 from .shared import (CLOSE, EXAMPLES, MANY, Server, answer_to, attempt, expect, get, post, rows_of_copy, said, wants, within)
 
@@ -16,23 +16,6 @@ SHELLS = "dash", "bash"
 PATIENCE = 60
 OLD = "170000000000017", "170000000000018", "170000000000019"  # numbers of requests, before all that follow the clock
 GOOD, BAD = "number:5550111\ntotpages:1\n", "number:666\ntotpages:1\n"
-
-
-class Strange:
-    """Gives each new request some answers that aren't the queue's, before the queue has it and after, then the queue's."""
-
-    def __init__(self, most):
-        self.most, self.given, self.next = most, {}, 0
-
-    def __call__(self, data, hand_on):
-        given = self.given.setdefault(number_of(data), [])
-        if len(given) == self.most:
-            return hand_on()
-        given.append(STRANGE[self.next % len(STRANGE)])
-        self.next += 1
-        if len(given) % 2 == 0:
-            hand_on()
-        return given[-1]
 
 
 @contextlib.contextmanager
@@ -71,8 +54,7 @@ def strange_answers(folder):
     """What isn't the queue's answer to the request, as a proxy's 401, 404, 200 or redirect, isn't taken for one: each fax and each
     imported file is one job, and its request is the same to the byte when it is sent again."""
     wants(*SHELLS, "curl", "flock")
-    strange = Strange(len(STRANGE) if said.all else 3)
-    with queue(folder, strange) as (server, proxy):
+    with queue(folder, Strange()) as (server, proxy):
         for number, shell in enumerate(SHELLS):
             for kind in "client.sh", "import.sh":
                 with attempt(f"{shell} {kind}"):
@@ -82,8 +64,7 @@ def strange_answers(folder):
                     status, out, err = ran([shell, EXAMPLES / kind, place / "kept", place / "file"], proxy.url, CLIENT=f"c{shell}-{kind}")
                     job = 2 * number + 1 + (kind == "import.sh")
                     expect(status == 0 and str(job) in out, f"it ends with {status}, and says {out!r} and {err!r}")
-                    told = [line for line in err.splitlines() if line.startswith(f"{kind}: request ")]
-                    expect(len(told) == len(set(told)) and (told or job > 1), f"what came is told as {err!r}")
+                    expect("isn't answered by the queue" in err or job > 1, f"what came isn't told: {err!r}")
                     sent = proxy.seen[count:]
                     first = {number_of(data): data for data in reversed(sent)}
                     expect(all(data == first[number_of(data)] for data in sent), "a request isn't the same when it is sent again")
@@ -193,7 +174,7 @@ def broken_off(shell, place, proxy):
 # What answers a question for the job, with what `fax --wait` has to say of it, on one line, and end with 3.
 ENDS = [
     (reply(401, "<html>", "text/html"), "name and password"), (reply(404, "<html>", "text/html"), "isn't a fax queue"),
-    (reply(404, '{"no":8,"word":"no-job"}'), "has no job 1"), (reply(200, "<html>", "text/html"), "isn't a fax queue"),
+    (reply(404, '{"no":8,"word":"no-job"}'), "has no job [0-9]"), (reply(200, "<html>", "text/html"), "isn't a fax queue"),
     (reply(302, "", "text/html"), "isn't a fax queue"),
 ]
 
@@ -229,7 +210,6 @@ def waits(folder):
             status, out, err = fax()
             expect((status, out) == (0, "2\n"), f"it ends with {status}, and says {out!r} and {err!r}")
         with attempt("a job that fails"):
-            answer_to(server.port, post("/jobs/3/kill", 1, "", "other", CLOSE))
             waiting = subprocess.Popen([EXAMPLES / "fax", folder / "desk", "-d", "5550111", "-w", folder / "text.ps"], text=True,
                                        env={**os.environ, "HOME": str(folder), "FAXQD": proxy.url, "PAUSE": "0.1", "CLIENT": "desk",
                                             "PROGRAM": str(said.program)}, stdout=subprocess.PIPE, stderr=subprocess.PIPE)
@@ -238,10 +218,9 @@ def waits(folder):
             expect((waiting.returncode, out, err) == (1, "3\n", "fax: job 3 failed: Killed\n"), f"{waiting.returncode} {out!r} {err!r}")
         for answer, wanted in ENDS:
             with attempt(answer):
-                strange[:] = [answer.replace(b"job 1", b"job")]
+                strange[:] = [answer]
                 status, out, err = fax("--wait")
-                wanted = wanted.replace("job 1", f"job {out.strip()}")
-                expect(status == 3 and out.strip().isdigit() and err.startswith("fax: ") and wanted in err and err.count("\n") == 1,
+                expect(status == 3 and out.strip().isdigit() and re.fullmatch(f"fax: .*{wanted}.*\n", err),
                        f"it ends with {status}, and says {out!r} and {err!r}")
         with attempt("a status of several lines"):
             text = answer_to(server.port, get("/jobs/3", CLOSE))[1].decode().replace("status:Killed", "status:a\\\nb\x85")

@@ -9,9 +9,9 @@ import subprocess
 import threading
 import time
 
-from .proxy import Proxy, STRANGE, number_of, path_of, reply
+from .proxy import Proxy, Strange, number_of, path_of, reply
 from .runner import group
-from .shared import CLOSE, EXAMPLES, MANY, NO_WAITS, Server, answer_to, attempt, expect, get, post, said, wants, within
+from .shared import CLOSE, EXAMPLES, MANY, NO_WAITS, Server, answer_to, attempt, expect, get, post, wants, within
 
 check = group("worker", "Has examples/worker.sh, with dash and bash, and efax-worker send each page once, whatever answers them.",
               "scripts")
@@ -144,24 +144,6 @@ def each_shell(folder, part, *more):
         thread.join()
 
 
-class Strange:
-    """Gives each new request some answers that aren't the queue's, before the queue has it and after, then the queue's."""
-
-    def __init__(self, most):
-        self.most, self.given, self.next = most, {}, 0
-
-    def __call__(self, data, hand_on):
-        key = path_of(data), number_of(data)
-        given = self.given.setdefault(key, [])
-        if len(given) < self.most:
-            given.append(STRANGE[self.next % len(STRANGE)])
-            self.next += 1
-            if len(given) % 2 == 0:
-                hand_on()
-            return given[-1]
-        return hand_on()
-
-
 def efax_worker(folder):
     """efax-worker, with a document of three pages in a folder, on a machine that has what it needs."""
     if not all(map(shutil.which, ("gs", "tiffcp", "tiffinfo"))):
@@ -177,7 +159,7 @@ def strange_answers(folder):
     """What isn't the queue's answer to the request, as a proxy's 401, 403, 404, 429, 200 or redirect, isn't taken for one: each
     page is sent once, each request goes out until the queue answers it, the same to the byte, and what came is told once."""
     def part(office):
-        office.proxy.instead = Strange(len(STRANGE) if said.all else 3)
+        office.proxy.instead = Strange()
         office.ask("/jobs", "number:5550111\ntotpages:3\ntiff:0::document.tif\n")
         shutil.copy(folder / "document.tif", office.folder)
         office.start()
