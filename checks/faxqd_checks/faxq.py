@@ -13,7 +13,7 @@ import sys
 import time
 
 from .bad_line import line_to
-from .proxy import Answers, number_of, reply
+from .proxy import Answers, Proxy, number_of, reply
 from .runner import group
 from .shared import (CLOSE, EXAMPLES, Server, Wrong, answer_to, attempt, expect, free_port, get, is_whole, option, post,
                      rows_of_copy, run, wants)
@@ -208,6 +208,21 @@ def other_requests(folder):
         wanted = [(str(pages), str(folder / place / "letter.tif")) for place, pages in (("one", 1), ("two", 2), ("two", 2), ("two", 3))]
         expect([one.groups() for one in found] == wanted, f"the jobs are of {[one.groups() for one in found]}")
         expect(not desk.left(), f"{desk.left()} is left")
+
+
+@check
+def forbidden(folder):
+    """What a proxy lets this user never send stays, and is told, and stops no request about something else."""
+    port, desk = free_port(), Desk(folder)
+    with serving(folder, port), Proxy(port, lambda data, hand_on: reply(403, "<html>", "text/html") if b"/modems/" in data
+                                      else hand_on()) as proxy:
+        desk.fails("password of ~/.netrc: 403", 3, proxy.url, "modems", "down", "ttyS0")
+        number, = desk.left()
+        for words, wanted in (FAX, "1\n"), (("suspend", "1"), "job 1 is suspended\n"):
+            status, out, err = desk.says(proxy.url, *words)
+            expect((status, out) == (0, wanted) and f"403 (kept in {desk.folder}/waiting/{number})" in err, f"{status} {out!r} {err!r}")
+        desk.fails("modems down ttyS0: .*403.*faxq left", 3, proxy.url, "modems", "up", "ttyS0")
+        expect(len(desk.left()) == 2 and number in desk.left(), f"{desk.left()} is left")
 
 
 @check
