@@ -213,8 +213,11 @@ def waits(folder):
             waiting = subprocess.Popen([EXAMPLES / "fax", folder / "desk", "-d", "5550111", "-w", folder / "text.ps"], text=True,
                                        env={**os.environ, "HOME": str(folder), "FAXQD": proxy.url, "PAUSE": "0.1", "CLIENT": "desk",
                                             "PROGRAM": str(said.program)}, stdout=subprocess.PIPE, stderr=subprocess.PIPE)
-            within("job 3", lambda: answer_to(server.port, post("/jobs/3/kill", 2, "", "other", CLOSE))[0] == 200)
-            out, err = waiting.communicate(timeout=PATIENCE)
+            try:
+                within("job 3", lambda: answer_to(server.port, post("/jobs/3/kill", 2, "", "other", CLOSE))[0] == 200)
+                out, err = waiting.communicate(timeout=PATIENCE)
+            finally:
+                waiting.kill()
             expect((waiting.returncode, out, err) == (1, "3\n", "fax: job 3 failed: Killed\n"), f"{waiting.returncode} {out!r} {err!r}")
         for answer, wanted in ENDS:
             with attempt(answer):

@@ -232,18 +232,24 @@ def kept(office, number, path, body, goes_on):
     (office.folder / "did").write_text("")
     office.proxy.listener.close()  # a message of the worker before may still be on its way there
     office.proxy = Proxy(office.server.port, lambda data, hand_on: b"" if path_of(data).endswith("/ttyS0/next") else hand_on())
-    process = office.run()
-    if goes_on:
-        within("it asks for work", lambda: any(path_of(data).endswith("/ttyS0/next") for data in office.proxy.seen))
-        process.kill()
-        process.wait()
-    else:
-        expect(process.wait(20) == 1, f"it ends with {process.returncode}")
-        expect((office.folder / "ttyS0/request").read_text() == request, "the request isn't kept")
-        expect(not any(path_of(data).endswith("/next") for data in office.proxy.seen), "it goes on")
+    office.run()
+    try:
+        goes(office, request, goes_on)
+    finally:
+        office.stop()
     silent = office.shell == EFAX_WORKER and not path.startswith("/grants/")  # it asks anew at once
     expect(f": {path}, sent again, is refused: {{" in office.errors() or silent, f"it says {office.errors()!r}")
     expect(office.did() == office.called(), f"the modem did {office.did()}")
+
+
+def goes(office, request, goes_on):
+    """The worker asks for work, or ends and has kept its request."""
+    if goes_on:
+        within("it asks for work", lambda: any(path_of(data).endswith("/ttyS0/next") for data in office.proxy.seen))
+    else:
+        expect(office.worker.wait(20) == 1, f"it ends with {office.worker.returncode}")
+        expect((office.folder / "ttyS0/request").read_text() == request, "the request isn't kept")
+        expect(not any(path_of(data).endswith("/next") for data in office.proxy.seen), "it goes on")
 
 
 @check
