@@ -4,8 +4,9 @@
 #
 #   FAXQD=http://127.0.0.1:4559 CLIENT=old examples/import.sh /var/spool/import sendq/q*
 #
-# It asks until there is an answer, however often the line fails, and each file is brought in once. Where it was stopped
-# before, the same words again go on with what is left.
+# It asks until there is an answer, however often the network fails, and each file is brought in once. If it was stopped,
+# the same command, or `import.sh FOLDER` alone, goes on with what is left. With other files it does nothing but say so:
+# FOLDER/names lists the files of the import that it belongs to. It needs curl, flock and python3.
 set -eu
 folder=$1
 shift
@@ -14,23 +15,114 @@ client=${CLIENT:-old}
 limit=${LIMIT:-10} # seconds until a request without a reply counts as lost
 pause=${PAUSE:-2}  # seconds before it is sent again
 
+say() {
+    printf 'import.sh: %s\n' "$1" >&2
+}
+
+for tool in curl flock python3; do
+    command -v "$tool" > /dev/null || { say "there is no $tool"; exit 1; }
+done
 mkdir -p "$folder/waiting" "$folder/taken" "$folder/refused"
 exec 9> "$folder/lock"
 flock 9 # one at a time
 
-# All files are kept under their numbers, 1 for the first, before one is sent. So each has its number for good.
-if [ ! -e "$folder/names" ]; then
+# read_reply GOT: prints one line about the reply to an import. GOT is its status and content type.
+#   accepted BODY    the queue's reply
+#   refused BODY     the queue's refusal
+#   lost GOT         anything else: it doesn't show whether the queue has the request
+read_reply() {
+    python3 -IS - "$1" "$folder/reply" << 'END'
+import json, re, sys
+
+got, file = sys.argv[1:]
+answer = "lost", ascii(got)[1:-1]
+status, _, content = got.partition(" ")
+try:
+    told = json.loads(open(file, encoding="utf-8").read()) if content.split(";")[0].strip().lower() == "application/json" else {}
+    body = json.dumps(told, separators=(",", ":")).replace("\x7f", "?")
+    if status in ("200", "201") and type(told.get("job")) is type(told.get("state")) is int:
+        answer = "accepted", body
+    elif status >= "400" and type(told.get("no")) is int and re.fullmatch("[a-z-]{1,32}", str(told.get("word"))):
+        if told["word"] != "unavailable":
+            answer = "refused", body
+except (AttributeError, OSError, ValueError, RecursionError):
+    pass
+print(*answer)
+END
+}
+
+# not_answered WHAT: tells once what came in place of the queue's answer. What was only lost is told at the third time.
+not_answered() {
+    tries=$((tries + 1))
+    case $text in curl* | 50[234]*) if [ "$tries" -lt 3 ]; then return; fi ;; esac
+    if [ "${text%% *}" != "$seen" ]; then say "$1 isn't answered by the queue: $text; trying again"; fi
+    seen=${text%% *}
+}
+
+# send NUMBER FILE: sends a file until the queue answers. $answer and $text have what it says.
+send() {
+    seen='' tries=0
+    while
+        : > "$folder/reply"
+        got=$(curl --silent --show-error --netrc-optional --max-time "$limit" --output "$folder/reply" \
+            --write-out '%{http_code} %{content_type}' --header "Fax-Client: $client" --header "Fax-Number: $1" \
+            --header 'Content-Type: text/plain' --data-binary "@$2" "$server/imports" 2> "$folder/error") ||
+            got="curl($?) $(sed 's/^curl: ([0-9]*) //;q' "$folder/error")"
+        answer='' text=''
+        read_reply "$got" > "$folder/answer" && read -r answer text < "$folder/answer"
+        [ "$answer" != accepted ] && [ "$answer" != refused ]
+    do
+        not_answered "request $1"
+        sleep "$pause"
+    done
+}
+
+# list FILE..: each file with the number of its request, 1 for the first, in 18 digits
+list() {
     number=0
-    : > "$folder/names.new"
     for file; do
         number=$((number + 1))
-        kept=$(printf '%018d' "$number")
-        cp "$file" "$folder/waiting/$kept"
-        sync "$folder/waiting/$kept"
-        printf '%s %s\n' "$kept" "$file" >> "$folder/names.new"
+        case $file in /*) ;; *) file=$PWD/$file ;; esac
+        printf '%018d %s\n' "$number" "$file"
     done
-    sync "$folder/names.new" "$folder/waiting"
-    mv "$folder/names.new" "$folder/names"
+}
+
+# The names are kept before the first file, and each file under its number before one is sent. So each has its number for
+# good, and no other file is sent.
+if [ $# -gt 0 ]; then
+    list "$@" > "$folder/names.new"
+    if [ ! -e "$folder/names" ]; then
+        if [ -n "$(ls "$folder/waiting" "$folder/taken" "$folder/refused" | grep '^[0-9]')" ]; then
+            say "$folder has files of an import that was broken off, and no list of them; nothing was sent: use another folder"
+            exit 2
+        fi
+        sync "$folder/names.new"
+        mv "$folder/names.new" "$folder/names"
+        sync "$folder"
+    elif ! cmp -s "$folder/names.new" "$folder/names"; then
+        say "$folder belongs to an import of other files, which $folder/names lists; nothing was sent: use another folder"
+        exit 2
+    fi
+elif [ ! -e "$folder/names" ]; then
+    say 'no files are named'
+    exit 2
+fi
+number=0
+for file; do
+    number=$((number + 1))
+    kept=$(printf '%018d' "$number")
+    if [ -e "$folder/all-kept" ] || [ -e "$folder/waiting/$kept" ]; then continue; fi
+    cp "$file" "$folder/new"
+    sync "$folder/new"
+    mv "$folder/new" "$folder/waiting/$kept"
+done
+if [ ! -e "$folder/all-kept" ]; then
+    if [ $# = 0 ]; then
+        say "not all files of $folder/names are copied yet; nothing was sent: name them once more"
+        exit 2
+    fi
+    sync "$folder/waiting"
+    : > "$folder/all-kept"
     sync "$folder"
 fi
 
@@ -38,24 +130,15 @@ failed=0
 for file in "$folder"/waiting/*; do
     [ -e "$file" ] || continue
     kept=${file##*/}
-    number=$(echo "$kept" | sed 's/^0*//')
     name=$(sed -n "s/^$kept //p" "$folder/names")
-    # Any of these says nothing of what became of the request. So the same one goes out again, under its number.
-    while
-        status=$(curl --silent --netrc-optional --max-time "$limit" --output "$folder/reply" \
-            --write-out '%{http_code}' --header "Fax-Client: $client" --header "Fax-Number: $number" \
-            --header 'Content-Type: text/plain' --data-binary "@$file" "$server/imports") || status=000
-        case $status in 000 | 50[!7]) true ;; *) false ;; esac
-    do
-        sleep "$pause"
-    done
-    if [ "$status" = 201 ]; then
+    send "$(echo "$kept" | sed 's/^0*//')" "$file"
+    if [ "$answer" = accepted ]; then
         mv "$file" "$folder/taken/$kept"
-        echo "$name: $(cat "$folder/reply")"
+        printf '%s: %s\n' "$name" "$text"
     else
-        # Not taken. A mended file may be put into waiting/ under this same number.
+        # A fixed file may be put into waiting/ under this same number.
         mv "$file" "$folder/refused/$kept"
-        echo "import.sh: $name is refused: $(cat "$folder/reply")" >&2
+        say "$name is refused: $text"
         failed=1
     fi
 done

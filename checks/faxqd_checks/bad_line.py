@@ -13,7 +13,7 @@ from .shared import CLOSE, EXAMPLES, MANY, Peer, Server, answer_to, attempt, exp
 
 check = group("bad-line", "Has examples/client.sh and worker.sh send faxes over a line that loses, doubles and delays "
               "messages, and import.sh bring an older queue's files in.", "waiting")
-PATIENCE = 15  # seconds until a fax that isn't sent counts as never sent
+PATIENCE = 40  # seconds until a fax that isn't sent counts as never sent
 FAX = "number:555-0111\ntotpages:3\njobtag:over a bad line\nmaxtries:100\nmaxdials:100\n"
 NO_JOB = b'{"no":8,"word":"no-job"}'
 FATES = "is lost", "is not answered", "comes twice", "comes late", "comes again"
@@ -126,6 +126,7 @@ def faxes(folder):
             office.submits()
             office.start_worker()
             office.is_done()
+            within("the line of the call", lambda: (place / "log").exists() and (place / "log").read_text().endswith("\n"))
             office.is_over()
             wanted = ["hangup", "dial 5550111", "page 1 1", "page 1 2", "page 1 3", "hangup"]
             expect(office.did() == wanted, f"the modem did {office.did()}")

@@ -190,6 +190,26 @@ def unfit_documents(office):
 
 
 @part
+def places_of_documents(office):
+    """While there is no folder of documents the worker waits, and fails no job; and a comma in a path names no page."""
+    office.kill(office.worker)
+    place = office.folder / "mnt, 1"
+    office.start_worker("/dev/nothing", place)
+    office.ask("/jobs", "number:5550111\ntotpages:3\nmaxdials:1\ntiff:0::a,0/b,1.tif\n")
+    within("it waits", lambda: f"there is no folder {place}" in (office.folder / "worker").read_text(), 20)
+    time.sleep(1)
+    said = (office.folder / "worker").read_text()
+    expect(office.job()["state"] == "5" and said.count("there is no folder") == 1, f"the job is {office.job()}, and it says {said}")
+    (office.folder / "made/a,0").mkdir(parents=True)
+    render(office.tools.document, office.folder / "made/a,0/b,1.tif", "-sDEVICE=tiffg3")
+    (office.folder / "made").rename(place)
+    job = office.is_in("8")
+    expect(job["totdials"] == "1", f"the job is {job}")
+    why = "the call failed: can't open serial port /dev/nothing: No such file or directory"
+    expect(office.reasons() == [why], f"the reasons are {office.reasons()}")
+
+
+@part
 def handed_in(office):
     """examples/fax makes faxes of a PDF, PostScript and TIFF, by its letters."""
     pdf, text, tiff = (office.folder / name for name in ("a report.pdf", "text.ps", "colour.tif"))
@@ -235,7 +255,7 @@ WRONG = {
         """said = "" if call is None else log.read_text(errors="replace")"""),
     "leaves the directory of a page behind it": (
         killed,
-        """            directory_first(file)""",
+        """            directory_first(self.folder / file)""",
         """            pass"""),
     "doesn't hand on its lock": (
         worker_killed,

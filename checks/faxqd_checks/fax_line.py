@@ -180,8 +180,8 @@ class Office:
                                 PROGRAM=str(said.program), LIMIT="10", PAUSE="0.1", WAIT="0.3", PLUS="00")
         self.start_worker()
 
-    def start_worker(self, device=None, **more):
-        words = ["ttyS0", self.folder / "ttyS0", self.folder, "-d", device or self.line.caller]
+    def start_worker(self, device=None, documents=None, **more):
+        words = ["ttyS0", self.folder / "ttyS0", documents or self.folder, "-d", device or self.line.caller]
         with open(self.folder / "worker", "a") as says:
             self.worker = subprocess.Popen([self.tools.worker, *words], stderr=says, env={**self.environment, **more})
 

@@ -1,7 +1,6 @@
 """`examples/faxq` against `serve`: over examples/bad-line.py each command is done once; killed before it is answered it goes
 on, and makes one job; replies that aren't the queue's own say nothing of a request, and those that have to be mended are told
 at once; `why` says why a job isn't sent; `again` hands in the pages that weren't confirmed."""
-import contextlib
 import json
 import os
 import pathlib
@@ -11,12 +10,12 @@ import ssl
 import struct
 import subprocess
 import sys
-import threading
 import time
 
 from .bad_line import line_to
+from .proxy import Answers, Proxy, number_of, reply
 from .runner import group
-from .shared import (CLOSE, EXAMPLES, Server, Wrong, answer_to, attempt, expect, free_port, is_whole, option, post,
+from .shared import (CLOSE, EXAMPLES, Server, Wrong, answer_to, attempt, expect, free_port, get, is_whole, option, post,
                      rows_of_copy, run, wants)
 
 check = group("faxq", "Has examples/faxq do each command once over a bad line and through stops, say why a job isn't sent, "
@@ -46,15 +45,29 @@ class Desk:
     """Who calls faxq, with a folder of his own."""
 
     def __init__(self, folder, client="desk", home=None):
-        self.folder, self.client, self.home = folder / f"of-{client}", client, home or folder
+        self.folder, self.client, self.home, self.place = folder / f"of-{client}", client, home or folder, None
 
     def words(self, url, *words):
-        own = "--server", url, "--client", self.client, "--folder", self.folder, "--limit", "2", "--pause", "0.05"
+        name = ("--client", self.client) if self.client else ()
+        own = "--server", url, *name, "--folder", self.folder, "--limit", "2", "--pause", "0.05"
         return [sys.executable, str(faxq_file()), *map(str, own), *map(str, words)]
 
     def start(self, url, *words):
         return subprocess.Popen(self.words(url, *words), stdin=subprocess.DEVNULL, stdout=subprocess.PIPE,
-                                stderr=subprocess.PIPE, text=True, env={**os.environ, "HOME": str(self.home)})
+                                stderr=subprocess.PIPE, text=True, env={**os.environ, "HOME": str(self.home)}, cwd=self.place)
+
+    def killed(self, port, *words):
+        """Has it ask, where nobody answers, and kills it; gives what it sent."""
+        with socket.create_server(("127.0.0.1", port)) as deaf:
+            held = self.start(f"http://127.0.0.1:{port}", *words)
+            peer, _ = deaf.accept()
+            with peer:
+                data = b""
+                while not is_whole(data):
+                    data += peer.recv(65536)
+                held.kill()
+                held.communicate()
+        return data
 
     def says(self, url, *words):
         """Its status, and what it says on both streams."""
@@ -154,16 +167,8 @@ def stopped(folder):
     url = f"http://127.0.0.1:{port}"
     fax = "submit", "5550111", "--pages", "1", "-a", "now + 1 hour"
     for job, comes in enumerate((True, False, True), 1):
-        with socket.create_server(("127.0.0.1", port)) as deaf:
-            held = desk.start(url, *fax)
-            peer, _ = deaf.accept()
-            with peer:
-                data = b""
-                while b"tts:" not in data:
-                    data += peer.recv(65536)
-                held.kill()
-                held.communicate()
-        number = re.search(rb"Fax-Number: (\d+)", data)[1].decode()
+        data = desk.killed(port, *fax)
+        number = number_of(data)
         expect(desk.left() == [number], f"request {number} was sent, and {desk.left()} is kept")
         with serving(folder, port):
             if comes:
@@ -174,6 +179,123 @@ def stopped(folder):
             desk.does(job, url, *fax)
             expect(rows(folder, "SELECT count(*) FROM jobs") == [(job,)], f"{rows(folder, 'SELECT job FROM jobs')} are the jobs")
             expect(not desk.left(), "an answered request is left")
+
+
+@check
+def other_requests(folder):
+    """Stopped, the same words go on only if they make the same request: from another folder, or with a file that has changed, both
+    are sent, the old one first, and that is told."""
+    port, desk = free_port(), Desk(folder)
+    url = f"http://127.0.0.1:{port}"
+    for place, pages in ("one", 1), ("two", 2):
+        (folder / place).mkdir()
+        tiff(folder / place / "letter.tif", pages)
+    fax = "submit", "5550111", "letter.tif"
+    desk.place = folder / "one"
+    desk.killed(port, *fax)
+    with serving(folder, port):
+        desk.place = folder / "two"
+        status, out, err = desk.says(url, *fax)
+        expect((status, out) == (0, "2\n"), f"from another folder it ends with {status}, and says {out!r} {err!r}")
+        expect(re.search('left from before: submit 5550111 letter.tif: .*"job": 1', err) and "another request" in err, f"it says {err!r}")
+    desk.killed(port, *fax)
+    tiff(folder / "two" / "letter.tif", 3)
+    with serving(folder, port):
+        status, out, err = desk.says(url, *fax)
+        expect((status, out) == (0, "4\n") and "left from before" in err, f"with another file: {status} {out!r} {err!r}")
+        found = [re.search(r"totpages:(\d)\n.*tiff:0::(\S*)", answer_to(port, get(f"/jobs/{job}", CLOSE))[1].decode(), re.S)
+                 for job in (1, 2, 3, 4)]
+        wanted = [(str(pages), str(folder / place / "letter.tif")) for place, pages in (("one", 1), ("two", 2), ("two", 2), ("two", 3))]
+        expect([one.groups() for one in found] == wanted, f"the jobs are of {[one.groups() for one in found]}")
+        expect(not desk.left(), f"{desk.left()} is left")
+
+
+@check
+def forbidden(folder):
+    """What a proxy lets this user never send stays, and is told, and stops no request about something else."""
+    port, desk = free_port(), Desk(folder)
+    with serving(folder, port), Proxy(port, lambda data, hand_on: reply(403, "<html>", "text/html") if b"/modems/" in data
+                                      else hand_on()) as proxy:
+        desk.fails("password of ~/.netrc: 403", 3, proxy.url, "modems", "down", "ttyS0")
+        number, = desk.left()
+        for words, wanted in (FAX, "1\n"), (("suspend", "1"), "job 1 is suspended\n"):
+            status, out, err = desk.says(proxy.url, *words)
+            expect((status, out) == (0, wanted) and f"403 (kept in {desk.folder}/waiting/{number})" in err, f"{status} {out!r} {err!r}")
+        desk.fails("modems down ttyS0: .*403.*faxq left", 3, proxy.url, "modems", "up", "ttyS0")
+        expect(len(desk.left()) == 2 and number in desk.left(), f"{desk.left()} is left")
+
+
+@check
+def reused(folder):
+    """A submission that was refused keeps its number when the same words hand it in again; where a late copy was accepted under it
+    meanwhile that is told, and then it gets a new one."""
+    port, desk = free_port(), Desk(folder)
+    url = f"http://127.0.0.1:{port}"
+    with serving(folder, port):
+        desk.fails("refused: rejected", 1, url, "submit", "666", "--pages", "1")
+        number, = [file.name for file in desk.folder.glob("refused/*")]
+        late = answer_to(port, post("/jobs", number, "number:5550111\ntotpages:1\n", "desk", CLOSE))
+        expect(late == (201, b'{"job":1}'), f"a copy is answered {late}")
+        desk.fails("refused: number-reused", 1, url, "submit", "666", "--pages", "1")
+        desk.fails("refused: rejected", 1, url, "submit", "666", "--pages", "1")
+        again = [file.name for file in desk.folder.glob("refused/*")]
+        expect(len(again) == 2 and number not in again, f"{number} was refused, and then {again}")
+
+
+@check
+def logins(folder):
+    """What was kept for one login goes out under no other, as a proxy may take the login for the client."""
+    def login(name):
+        (folder / ".netrc").write_text(f"machine 127.0.0.1 login {name} password secret\n")
+        (folder / ".netrc").chmod(0o600)
+
+    desk = Desk(folder, None, folder)
+    with Answers(reply(401, "<html>", "text/html"), TAKEN) as peer:
+        login("anna")
+        desk.fails("password", 3, peer.url, *FAX)
+        login("bert")
+        status, out, err = desk.says(peer.url, "left")
+        expect(status == 3 and "kept for the login anna" in out, f"left says {status} {out!r} {err!r}")
+        expect(len(peer.seen) == 1, f"it is sent under another login: {peer.seen[1:]}")
+        desk.does("5", peer.url, "submit", "5550112", "--pages", "1")
+        expect(b"Fax-Client: bert\r\n" in peer.seen[1] and len(desk.left()) == 1, f"{peer.seen[1:]}, and {desk.left()} is left")
+        login("anna")
+        desk.does('submit 5550111 --pages 1: {"job": 5}', peer.url, "left")
+        expect(peer.seen[2] == peer.seen[0], f"another request is sent: {peer.seen}")
+
+
+HOSTILE = "number:5550111\ntotpages:{pages}\nnpages:1\nstate:{state}\njobtag:a\u0085\u2028b\nstatus:old\\\nnpages:9\\\n" \
+          "tiff:0::/etc/passwd\\\n\u009b2J\u2029\u202estatus\ntiff:0::{document}\n"
+
+
+@check
+def several_lines(folder):
+    """A status of several lines is shown, and no line of it counts as one of the job; control characters of others' texts aren't
+    printed; and `wait` ends with 1 only if the job failed."""
+    port, desk = free_port(), Desk(folder)
+    url = f"http://127.0.0.1:{port}"
+    tiff(folder / "letter.tif", 3)
+    with serving(folder, port):
+        for number, (state, pages) in enumerate(((8, 3), (7, 1)), 1):
+            body = HOSTILE.format(state=state, pages=pages, document=folder / "letter.tif")
+            expect(answer_to(port, post("/imports", number, body, "old", CLOSE))[0] == 201, "an import is refused")
+        for words, wanted, ends in (
+                (("status", 1), "job 1 to 5550111 (a??b) is failed (old / npages:9 / tiff:0::/etc/passwd / ?2J??status): 1 of 3 pages", 0),
+                (("why", 1), "job 1 failed: old / npages:9 / tiff:0::/etc/passwd / ?2J??status;", 0),
+                (("wait", 1), "job 1 to 5550111 (a??b) is failed (old / ", 1), (("wait", 2), "job 2 to 5550111", 0),
+                (("status",), "   JID Pri S", 0)):
+            with attempt(words):
+                status, out, err = desk.says(url, *words)
+                expect(status == ends and out.startswith(wanted), f"it ends with {status}, and says {out!r} and {err!r}")
+                expect(not re.search("[^ -~\n]", out), f"it prints {out!r}")
+        with attempt("again"):
+            desk.does("3", url, "again", "1")
+            job = answer_to(port, get("/jobs/3", CLOSE))[1].decode()
+            expect(job.count("\ntiff:") == 1 and f"tiff:0::{folder}/letter.from2.tif\n" in job, f"the new job is {job}")
+    for answer in "jobid:1\nnumber:5550111\nstate:8\nstatus:x\n", "jobid:1\nstatus\n", "jobid:1\nnumber:5\nstate:99\nstatus:a\\\n":
+        with attempt(answer), Answers(reply(200, answer, "text/plain")) as peer:
+            status, out, err = desk.says(peer.url, "wait", 1)
+            expect(status == 3 and "Traceback" not in err, f"wait ends with {status}, and says {out!r} and {err!r}")
 
 
 @check
@@ -201,47 +323,6 @@ def left_before(folder):
         both = [desk.start(url, "submit", "5550111", "--pages", "1") for _ in "ab"]
         jobs = sorted(int(one.communicate(timeout=PATIENCE)[0]) for one in both)
         expect(jobs == [6, 7], f"two at once are jobs {jobs}")
-
-
-class Answers:
-    """A peer that gives these answers one after the other, the last for ever, and keeps what it was sent."""
-
-    def __init__(self, *answers, tls=None):
-        self.answers, self.seen, self.tls = list(answers), [], tls
-        self.listener = socket.create_server(("127.0.0.1", 0))
-        self.port = self.listener.getsockname()[1]
-        threading.Thread(target=self.serve, daemon=True).start()
-
-    def serve(self):
-        with contextlib.suppress(OSError):
-            while True:
-                peer, _ = self.listener.accept()
-                with contextlib.suppress(OSError), peer:
-                    peer.settimeout(PATIENCE)
-                    if self.tls:
-                        peer = self.tls.wrap_socket(peer, server_side=True)
-                    data = b""
-                    while not is_whole(data):
-                        if not (piece := peer.recv(65536)):
-                            break
-                        data += piece
-                    if not data:
-                        continue
-                    self.seen.append(data)
-                    peer.sendall(self.answers.pop(0) if len(self.answers) > 1 else self.answers[0])
-                    with contextlib.suppress(OSError):
-                        peer.close()
-
-    def __enter__(self):
-        return self
-
-    def __exit__(self, *_):
-        self.listener.close()
-
-
-def reply(status, body, kind="application/json", length=None):
-    return (f"HTTP/1.1 {status} X\r\nContent-Type: {kind}\r\nContent-Length: {len(body) if length is None else length}\r\n"
-            f"\r\n{body}").encode()
 
 
 FAX, TAKEN = ("submit", "5550111", "--pages", "1"), reply(201, '{"job":5}')

@@ -2,25 +2,72 @@
 and takes half a minute."""
 import pathlib
 import re
+import subprocess
 import time
 
 from .bad_line import line_to
 from .browser import Browser, ENTER, Office, until
 from .runner import group
-from .shared import EXAMPLES, expect, option, wants
+from .shared import CLOSE, EXAMPLES, answer_to, expect, option, post, wants
 
 check = group("office", "Tries examples/office.html in Chromium, through nginx as docs/OPERATIONS.md sets it up and over a "
               "bad line.", by_hand=True)
 
 
+def page_file():
+    return pathlib.Path(option("page", EXAMPLES / "office.html")).resolve()
+
+
+@group("page", "Looks at examples/office.html without a browser.", "waiting")
+def patterns(folder):
+    """Each pattern of the form is one for today's browsers, which read it with the flag `v` (HTML's `pattern`), and admits numbers
+    and nothing else."""
+    wants("node")
+    found = re.findall(r'pattern="([^"]*)"', page_file().read_text())
+    expect(len(found) == 1, f"the page has the patterns {found}")
+    script = ("const p = new RegExp(`^(?:${process.argv[1]})$`, 'v');"
+              "console.log(['+1 (415) 555-0100', '555.0111*#', '555x', '5[1]', ''].map(text => p.test(text)).join())")
+    ran = subprocess.run(["node", "-e", script, found[0]], capture_output=True, text=True)
+    expect((ran.returncode, ran.stdout) == (0, "true,true,false,false,false\n"), f"node says {ran.stdout}{ran.stderr}")
+
+
+@check
+def names(folder):
+    """What one login has kept is sent under that login only, though another one loads the page meanwhile."""
+    wants("chromium", "chromedriver", "nginx", "openssl")
+    with Office(page_file(), folder) as office:
+        users = folder / "users"
+        users.write_text(users.read_text() + users.read_text().split("\n")[0].replace("desk:", "other:", 1) + "\n")
+        line = office.line
+        line.loses = True
+        with Browser(office) as browser:
+            browser.load()
+            browser.submits("555-0111", 1, "Contract")
+            until(lambda: line.seen, "it is sent")
+            browser.killed()
+        line.loses, before = False, len(line.seen)
+        with Browser(office) as browser:
+            browser.load("other")
+            until(lambda: "Fax to 555-0111 (Contract): for desk" in browser.text("kept"), "what is kept for desk is shown")
+            browser.submits("555-0112", 1)
+            browser.told("^The fax is job 2.$")
+            time.sleep(3)
+            expect([re.search(rb"(?i)fax-client: (\w+)", data)[1] for data in line.seen[before:]] == [b"other"], line.seen[before:])
+        with Browser(office) as browser:
+            browser.load()
+            browser.told("^The fax is job 1.$")
+            expect(line.seen[-1] == line.seen[0], f"another request is sent: {line.seen[-1]}")
+        expect(office.jobs() == 2, f"two faxes are {office.jobs()} jobs")
+
+
 @check
 def page(folder):
     """A fax whose reply is lost is one job, also when the page is loaded again and when the browser is killed; what a user
-    writes is text and one line; a refused fax is mended under its number; jobs are suspended, resumed and killed by the
-    keyboard; each control has a name, nothing is wider than a telephone, and over examples/bad-line.py each fax is one
-    job."""
+    writes is text and one line, and a number is one; a refused fax is mended under its number; jobs are suspended, resumed and
+    killed by the keyboard, and failed ones are shown; each control has a name, nothing is wider than a telephone, and over
+    examples/bad-line.py each fax is one job."""
     wants("chromium", "chromedriver", "nginx", "openssl")
-    with Office(pathlib.Path(option("page", EXAMPLES / "office.html")).resolve(), folder) as office:
+    with Office(page_file(), folder) as office:
         lost_replies(office, option("picture"))
         by_keyboard(office)
         on_a_telephone(office)
@@ -97,10 +144,18 @@ def by_keyboard(office):
         browser.shows(4, "ready")
         browser.types("tr[data-job='4'] [data-does=kill]", ENTER)
         browser.asks("POST", "/alert/accept")
-        until(lambda: not browser.row(4), "a killed job isn't shown")
-        browser.types("#over", " ")
         browser.shows(4, "failed")
         expect(browser.row(4)[6:] == ["Killed", ""], browser.row(4))
+        done = post("/imports", 1, "number:5550111\ntotpages:1\nnpages:1\nstate:7\n", "old", CLOSE)
+        expect(answer_to(office.queue, done) == (201, b'{"job":5,"state":7}'), "a job that is done isn't the fifth")
+        browser.runs("look()")
+        time.sleep(0.5)
+        expect(not browser.row(5), "a job that is done is shown")
+        browser.types("#over", " ")
+        browser.shows(5, "done")
+        wrong = browser.runs("const field = form.elements.number; field.value = 'x'; const bad = field.validity.patternMismatch;"
+                             "field.value = '+1 (415) 555.0100'; const good = field.validity.valid; field.value = ''; return [bad, good]")
+        expect(wrong == [True, True], f"the pattern of a number isn't used: {wrong}")
         # Focus stays on a button while the jobs are looked at again.
         browser.runs("document.querySelector(\"tr[data-job='1'] [data-does=kill]\").focus(); look()")
         time.sleep(0.5)
@@ -116,7 +171,7 @@ def mended(line, browser):
     browser.runs("form.elements.number.value = '555'; form.elements.totpages.value = 1; form.elements.jobtag.type = 'hidden';"
                  "form.elements.jobtag.value = 'lunch\\npriority:0'; form.requestSubmit(); form.elements.jobtag.type = 'text';"
                  "form.elements.jobtag.value = ''")
-    browser.told("^The fax is job 5.$")
+    browser.told("^The fax is job 6.$")
     expect(b"\njobtag:lunch priority:0\n" in line.seen[before], f"a line feed goes out: {line.seen[before]}")
     before = len(line.seen)
     browser.submits("666", 1, "Letter")
@@ -128,7 +183,7 @@ def mended(line, browser):
     expect(browser.runs("return document.activeElement.name + form.elements.jobtag.value") == "numberLetter", "mending fills the form")
     browser.runs("form.elements.number.value = ''")
     browser.types("[name=number]", "667" + ENTER)
-    browser.told("^The fax is job 6.$")
+    browser.told("^The fax is job 7.$")
     numbers = {re.search(rb"(?i)fax-number: (\d+)", request)[1] for request in line.seen[before:]}
     expect(len(numbers) == 1, f"a mended fax has another number: {numbers}")
     until(lambda: not browser.text("mendable"), "a mended fax isn't left")
@@ -143,7 +198,7 @@ def named(browser):
                    ("columnheader", "State"), ("heading", "Jobs"), ("status", "")):
         expect(wanted in names, f"a screen reader doesn't find {wanted}")
     said = [name for role, name in names if role == "StaticText"]
-    expect("The fax is job 6." in said, "what happened isn't read")
+    expect("The fax is job 7." in said, "what happened isn't read")
 
 
 def on_a_telephone(office):
