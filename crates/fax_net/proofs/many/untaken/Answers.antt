@@ -1,5 +1,5 @@
 use Rattle.std.proofs.Common.{◌≡◌, get_or, arith, rules}
-use Rattle.fax_net.specs.Link.{untaken_by, untaken_in}
+use Rattle.fax_net.specs.Link.{untaken_by}
 use Rattle.fax_net.proofs.RoomLemmas.{next_untaken}
 use Rattle.fax_net.proofs.many.untaken.Goals as goal
 
