@@ -47,7 +47,7 @@ class Queue(Server):
         super().__init__(folder / "queue.db", "--setup", folder / "setup", *words)
         if data:
             resource.prlimit(self.process.pid, resource.RLIMIT_DATA, (data, data))
-            # From here on the most memory counts anew.
+            # Resets the peak of the memory.
             pathlib.Path(f"/proc/{self.process.pid}/clear_refs").write_text("5")
         self.peer = Peer(self.port, patience=60)
 
