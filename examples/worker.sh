@@ -9,7 +9,7 @@
 #   COMMAND page JOB PAGE   sends one page, and ends with 0 if the receiver confirmed it
 #   COMMAND hangup          ends the call, if there is one
 #
-# It needs curl, flock and python3.
+# Told to stop by SIGTERM, it reports the page that is being sent, hangs up, and ends. It needs curl, flock and python3.
 set -eu
 modem=$1 folder=$2 command=$3
 server=${FAXQD:-http://127.0.0.1:4559}
@@ -96,6 +96,9 @@ print(answer if values is not None else "lost", *(values if values is not None e
 END
 }
 
+stopping=''
+trap 'stopping=1' TERM INT HUP # the shell does this once the program that it runs has ended
+
 say() {
     printf 'worker.sh: %s\n' "$1" >&2
 }
@@ -121,6 +124,7 @@ web() {
         read_reply "$path" "$got" > "$folder/answer" && read -r answer text < "$folder/answer"
         [ "$answer" != accepted ] && [ "$answer" != refused ]
     do
+        [ -z "$stopping" ] || exit 0 # the request is kept
         not_answered "$path"
         sleep "$pause"
     done
@@ -237,7 +241,7 @@ call() {
     fi
     page=$from
     while [ "$page" -le "$to" ]; do
-        if [ "$stop" = true ]; then
+        if [ "$stop" = true ] || [ -n "$stopping" ]; then
             outcome retry $((page - from)) stopped
             return
         fi
@@ -254,7 +258,7 @@ call() {
 hangup
 if [ -e "$folder/request" ]; then send_again; fi
 asked=0
-while true; do
+while [ -z "$stopping" ]; do
     ask "/modems/$modem/next"
     asked=$((asked + 1))
     grant=0
@@ -267,7 +271,8 @@ while true; do
     began=$(date +%s) online=$(date +%s)
     if [ "$grant" = 0 ]; then
         if [ "$asked" -ge 100 ]; then give_up; fi
-        sleep "$wait" # no job, or the modem is marked as down
+        sleep "$wait" 9>&- & # no job, or the modem is marked as down
+        wait $! || :
     elif [ "$called" = true ]; then
         # The worker was stopped within this call. Pages that were reported are confirmed for good.
         web "/jobs/$job"

@@ -10,7 +10,7 @@ _faxqd() {
         -*) [[ $word == -* ]] || return ;;&
         *)
             if [ "$COMP_CWORD" = 1 ]; then
-                words=$(compgen -W "serve replay list check sendfax import help" -- "$word")
+                words=$(compgen -W "serve replay list check sendfax import settings help" -- "$word")
             else
                 case ${COMP_WORDS[1]} in
                     serve) words="--db --listen --connections --timeout --setup --controls --help" ;;
@@ -19,6 +19,7 @@ _faxqd() {
                     check) words="--db --help" ;;
                     sendfax) words="-d --pages -i -P -t -T -a -k --moment --request --client --to --help" ;;
                     import) words="--client --request --help" ;;
+                    settings) words="--setup --controls --help" ;;
                     *) return ;;
                 esac
                 words=$(compgen -W "$words" -- "$word")

@@ -55,7 +55,7 @@ def usage(folder):
 
 
 HELPED = [("\nThe send queue of a fax server\n", [words]) for words in ("--help", "-h", "help")]
-HELPED += [(f"\n  {command} ", ["--help"]) for command in ("replay", "serve", "list", "check", "sendfax", "import")]
+HELPED += [(f"\n  {command} ", ["--help"]) for command in ("replay", "serve", "list", "check", "sendfax", "import", "settings")]
 OPTIONS = {
     "replay": ("--setup <FILE>", "--controls <FILE>"), "serve": SERVE,
     "list": ("--db <FILE>", "--moment <SECONDS>", "--setup <FILE>", "--controls <FILE>"),
@@ -63,6 +63,7 @@ OPTIONS = {
     "sendfax": ("-d <NUMBER>", "--pages <PAGES>", "-i <TAG>", "-P <PRIORITY>", "-t <TRIES>", "-T <DIALS>", "-a <TIME>",
                 "-k <TIME>", "--moment <SECONDS>", "--request <NUMBER>", "--client <NAME>"),
     "import": ("--client <NAME>", "--request <NUMBER>", "<FILE>..."),
+    "settings": ("--setup <FILE>", "--controls <FILE>"),
 }
 ASKED = {command: [[command, "--help"], [command, "-h"], ["help", command]] for command in OPTIONS}
 ASKED["replay"] += [["replay", "--setup", "no/such", "--help"]]

@@ -1,6 +1,7 @@
 """A job weighs what its row weighs, and one that is passed over costs little. The files, of up to 130 MB, are in /dev/shm where
 that has room, else in the folder of temporary files. They are filled with copies of the rows of a job that the program took. A
 start has as much memory as it wants, since the engine reads each table whole to check it."""
+import contextlib
 import pathlib
 import re
 import resource
@@ -8,7 +9,7 @@ import shutil
 import time
 
 from .runner import group
-from .shared import Peer, SETUP, Server, attempt, database_of, expect, get, new_folder, post, say
+from .shared import Peer, SETUP, Server, attempt, database_of, expect, get, new_folder, post, say, settle
 
 check = group("heavy-jobs", "Has thousands of heavy jobs wait, and tens of thousands for a busy number, and measures what a "
               "request costs then.")
@@ -26,6 +27,9 @@ PLAIN = 10_000  # jobs of a listing
 LISTED = 16 << 20  # bytes more than at rest
 GIVEN = 100_000  # kept replies of a client
 GIVEN_UP = 4 << 20  # bytes more than before
+UNREAD = 24  # peers that ask for a listing and don't read it
+LONG = 100_000  # jobs of their listings
+ROOM = 64_000_000  # bytes that replies have which aren't read yet, beside the last one
 EXTRA = "a:\n" * 21_800  # extra lines, as many as a body has room for
 
 
@@ -38,9 +42,9 @@ def room():
 class Queue(Server):
     """The program on a file, with so much data from when it listens, and one connection to it."""
 
-    def __init__(self, folder, data=None):
+    def __init__(self, folder, data=None, *words):
         (folder / "setup").write_text(SETUP)
-        super().__init__(folder / "queue.db", "--setup", folder / "setup")
+        super().__init__(folder / "queue.db", "--setup", folder / "setup", *words)
         if data:
             resource.prlimit(self.process.pid, resource.RLIMIT_DATA, (data, data))
             # From here on the most memory counts anew.
@@ -241,3 +245,33 @@ def listed(_):
     expect(numbers == list(range(1, PLAIN + 1)), f"the listing has {len(numbers)} jobs, from {numbers[:3]} to {numbers[-3:]}")
     expect(taken <= LONGEST, f"a listing of {PLAIN:,} jobs takes {taken:.2f} s")
     expect(more < LISTED, f"a listing of {PLAIN:,} jobs takes {more >> 10} kB")
+
+
+@check
+def unread(_):
+    """While 24 peers don't read their listings of 100,000 jobs, those that are begun take 64 MB and one listing more; the
+    others wait, every other request is answered, and the server is idle. Once the peers read, each gets its whole listing."""
+    with room() as folder, contextlib.ExitStack() as stack:
+        with Queue(folder) as server:
+            server.ask("a submission", post("/jobs", 1, "number:5550111\ntotpages:1\n"), 201)
+        copy_job(folder, 1, LONG)
+        server = stack.enter_context(Queue(folder, None, "--timeout", "100"))
+        body, _ = server.ask("the listing", get("/jobs"), 200)
+        rest = server.memory()
+        peers = [stack.enter_context(Peer(server.port, 65536, 100)) for _ in range(UNREAD)]
+        for peer in peers:
+            peer.say(get("/jobs"))
+        settle(server)
+        more, used = server.memory() - rest, server.processor()
+        time.sleep(1)
+        used = server.processor() - used
+        took = max(server.ask("a look", get("/jobs/1"), 200)[1],
+                   server.ask("a submission", post("/jobs", 2, "number:5550111\ntotpages:1\n"), 201)[1])
+        for number, peer in enumerate(peers):
+            listing = peer.reply().partition(b"\r\n\r\n")[2]
+            expect(listing.startswith(body), f"peer {number} gets {len(listing)} bytes of {len(body)}")
+    say(f"{UNREAD} listings of {len(body) >> 10} kB that aren't read take {more >> 20} MB more; another request takes {took:.3f} s, and "
+        f"an idle second {used:.2f} s of a processor")
+    expect(more < ROOM + 2 * len(body), f"{UNREAD} listings that aren't read take {more >> 20} MB")
+    expect(took < LONGEST, f"another request takes {took:.2f} s")
+    expect(used < 0.1, f"an idle second takes {used:.2f} s of a processor")

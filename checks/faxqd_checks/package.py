@@ -159,8 +159,8 @@ def stop(process, mode):
 
 @look
 def stopped(folder):
-    """A call that a worker has begun goes on when the worker is stopped as its unit says, and the next worker waits for its end:
-    by worker.sh the page is sent to its end, and again since nobody reports it; by efax-worker the whole fax, each page once."""
+    """When a worker is stopped as its unit says, each page is sent once: worker.sh sends and reports the page that it has begun,
+    and ends; what efax-worker has begun goes on, and the next worker waits for its end."""
     wants("curl")
     unit = (TOP / "packaging/faxqd-worker@.service").read_text()
     mode = (re.findall(r"(?m)^KillMode=(\S+)$", unit) or ["control-group"])[-1]
@@ -186,7 +186,6 @@ def stopped(folder):
                 within("a page is under way", lambda: has("page begins") or has("0001.tif"))
                 time.sleep(0.2)
                 stop(process, mode)
-                under_way = not has("page ends")
                 process = begin()
                 within("the job is done", lambda: b"\nstate:7\n" in answer_to(server.port, get("/jobs/1", CLOSE))[1])
             finally:
@@ -196,9 +195,9 @@ def stopped(folder):
             if name == "efax-worker":
                 expect(happened == ["0001.tif", "0002.tif", ""] and b"\ntotdials:1\n" in job, f"the pages {happened} are sent: {job}")
             else:
-                begun = happened.index("page begins")
-                expect(happened[begun + 1] == "page ends", f"a page is broken off, or the next worker doesn't wait: {happened}")
-                expect(not under_way or happened.count("page begins") == 3, f"a page that nobody reported isn't sent again: {happened}")
+                pages = [line for line in happened if line.startswith("page")]
+                expect(pages == 2 * ["page begins", "page ends"], f"the pages aren't sent once each: {happened}")
+                expect(b"\ntotdials:2\n" in job, f"the first worker went on after its page: {job}")
 
 
 # ---- in a root of Debian's packages

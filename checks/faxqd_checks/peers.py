@@ -15,7 +15,7 @@ import time
 
 from .runner import group
 from .shared import (CLOSE, MANY, NO_JOB, NO_JOB_LAST, PATIENCE, Peer, SETUP, Server, Wrong, answer_to, attempt, expect, get,
-                     post, preload, say)
+                     post, preload, say, settle)
 
 check = group("peers", "Runs `serve` beside slow peers, greedy ones and more than it has places for: how long a request "
               "takes, what memory they take, and how connections are counted.")
@@ -268,7 +268,8 @@ def unread(folder):
             order = f"number:5550111\ntotpages:20\nnote:{60000 * 'x'}\n"
             expect(answer_to(server.port, post("/jobs", 1, order, fields=CLOSE))[0] == 201, "a fax isn't accepted")
             stubborn(server.port, stack, count)
-            time.sleep(1)  # until what the system buffers for these is full, and they have been silent for long enough
+            settle(server)  # until what the system buffers for these is full
+            time.sleep(0.6)
             used = server.processor()
             took = times(server.port, 20)
             time.sleep(1)

@@ -12,8 +12,9 @@ use Rattle.fax_http.specs.Serving.{Answering}
 use Rattle.fax_http.proofs.TurnLemmas.{none_unfinished}
 use Rattle.fax_http.proofs.ServingLemmas.{go_on_one_more, length_one_more, reads_one_more, spelled_one_more}
 use Rattle.fax_net.specs.Deeds.{Admits, HoldsUp}
-use Rattle.fax_net.specs.History.{Answered, AreAnswered, Came, Failed, FailsIn, GoesOn, Held, IsAttended, IsDone, IsNext, IsQuiet, Missed, Refused, Step, Talk, Waits, acted, asks_for_listing, owed, refusal, room, talk, untaken}
+use Rattle.fax_net.specs.History.{Answered, AreAnswered, Came, Failed, FailsIn, GoesOn, Held, IsAttended, IsDone, IsNext, IsQuiet, Missed, Refused, Step, Talk, Waits, acted, asks_for_listing, last_owed, last_reply, owed, refusal, room, talk, untaken}
 use Rattle.fax_net.specs.Link.{AwaitsNext, EndsAt, HasAnswered, HasEnded, HasSaidAll, Holds, IsGoing, IsUnused, Keeps, awaits, is_done, is_due, is_held}
+use Rattle.fax_net.specs.Lists.{is_none}
 use Rattle.fax_net.specs.Many.{GoesFrom, Runs}
 use Rattle.fax_net.specs.declared.link.Link.{Link}
 use Rattle.fax_net.specs.declared.link.Stage.{Stage}
@@ -40,6 +41,12 @@ module _ (t : Talk) (none : t.refused ≡ None) where
   -- a refusal adds its bytes
   pub owed_refused : (broken : Broken) → owed (acted (Refused broken) t) ≡ owed t ++ failure_of broken
   owed_refused broken = ap (λ v. v ++ failure_of broken) (sym owed_replies)
+
+-- the last reply of some turns and one more
+last_of_more : (turns : List Turn) (turn : Turn) → last_reply (turns ++ turn ∷ []) ≡ spelled_turn turn
+last_of_more [] turn = refl
+last_of_more (first ∷ []) turn = refl
+last_of_more (first ∷ next ∷ turns) turn = last_of_more (next ∷ turns) turn
 
 -- where nothing is pending, all that is owed was taken
 paid_by : (t : Talk) (pending : List ℕ) → owed t ≡ t.took ++ pending → pending ≡ [] → owed t ≡ t.took
@@ -76,13 +83,18 @@ module _ {H : Type 0} (answers : Answering H) (over : H → Bool) (h h₂ : H) (
       owed_more t g.goes_on.unrefused it.turn (over h₂) ∙ ap (λ v. v ++ spelled_turn it.turn) (paid_by t link.pending g.owes none)
       ∙ ap (λ v. t.took ++ v) (sym (is ∙ it.spelled))
 
+  -- so long is the reply of the turn
+  sized_now : link₂.size ≡ length bytes → link₂.size ≡ length (last_owed t.refused (t.turns ++ it.turn ∷ []))
+  sized_now long =
+      long ∙ ap (λ (xs : List ℕ). length xs) (it.spelled ∙ sym (last_of_more t.turns it.turn)) ∙ sym (ap (λ r. length (last_owed r (t.turns ++ it.turn ∷ []))) g.goes_on.unrefused)
+
   -- the turns are counted with this one
   counted_now : link₂.messages ≡ link.messages + 1 → length (t.turns ++ it.turn ∷ []) ≡ link₂.messages
   counted_now more = omega (arith, more, g.counted, length_one_more t.turns it.turn)
 
   -- where another message may follow, what is kept is what became of the connection
   answered_holds : is_last it.turn.head ≡ false → link.is_awaited ≡ false → Keeps (found.Answered bytes) link link₂ true → Holds (acted (Answered it.turn (over h₂)) t) link₂
-  answered_holds going unseen (has, is, more, same, ends) = elim ends [
+  answered_holds going unseen (has, is, more, same, ends, long) = elim ends [
     | inl (going_on, under) ↦ held (acted (Answered it.turn (over h₂)) t) link₂ Open going_on (record {
       is_open = g.is_open;
       goes_on = record {
@@ -94,11 +106,13 @@ module _ {H : Type 0} (answers : Answering H) (over : H → Bool) (h h₂ : H) (
       counted = counted_now (more few);
       owes = owes_now is;
       awaited = λ waits. absurd (let unmoved = sym (same ∙ unseen) ∙ waits in cc);
+      sized = λ some. sized_now long;
     })
     | inr (ending, all) ↦ held (acted (Answered it.turn (over h₂)) t) link₂ Ending ending (record {
       is_open = g.is_open;
       done = inr (inr (inr (inr (omega (arith, counted_now (more few), all, more few, few)))));
       owes = owes_now is;
+      sized = λ some. sized_now long;
     })
   ]
     where
@@ -107,10 +121,11 @@ module _ {H : Type 0} (answers : Answering H) (over : H → Bool) (h h₂ : H) (
 
   -- where none may follow, it is too
   last_holds : (is_last it.turn.head ≡ true) ⊎ (over h₂ ≡ true) → Keeps (found.Last bytes) link link₂ true → Holds (acted (Answered it.turn (over h₂)) t) link₂
-  last_holds why (has, is, ending) = held (acted (Answered it.turn (over h₂)) t) link₂ Ending ending (record {
+  last_holds why (has, is, ending, long) = held (acted (Answered it.turn (over h₂)) t) link₂ Ending ending (record {
     is_open = g.is_open;
     done = done why;
     owes = owes_now is;
+    sized = λ some. sized_now long;
   })
     where
       done : (is_last it.turn.head ≡ true) ⊎ (over h₂ ≡ true) → IsDone (acted (Answered it.turn (over h₂)) t)
@@ -119,11 +134,12 @@ module _ {H : Type 0} (answers : Answering H) (over : H → Bool) (h h₂ : H) (
 
 -- what begins no message is refused
 refused_holds : (link link₂ : Link) (t : Talk) (broken : Broken) → IsGoing t link → link.pending ≡ [] → link₂.stage ≡ Ending → link₂.pending ≡ failure_of broken
-    → Holds (acted (Refused broken) t) link₂
-refused_holds link link₂ t broken g none ending is = held (acted (Refused broken) t) link₂ Ending ending (record {
+    → link₂.size ≡ length (failure_of broken) → Holds (acted (Refused broken) t) link₂
+refused_holds link link₂ t broken g none ending is long = held (acted (Refused broken) t) link₂ Ending ending (record {
   is_open = g.is_open;
   done = inl (broken, refl);
   owes = owed_refused t g.goes_on.unrefused broken ∙ ap (λ v. v ++ failure_of broken) (paid_by t link.pending g.owes none) ∙ ap (λ v. t.took ++ v) (sym is);
+  sized = λ some. long;
 })
 
 -- ---- its place in the history
@@ -146,20 +162,20 @@ module _ {P H : Type 0} (did : P → Step → P → Type 0) (answers : Answering
         let g : IsGoing (talk place earlier) link = holds (talk place earlier) link Open parts.0 kept in
         goes_by did answers over place below start first earlier (Answered it.turn (over h₂)) p h₂ link₂ 0 0 moved (λ t. ⊤) runs.right runs.happens
         (h, runs.answered, on₁, it.step, refl) (next_is answers over h h₂ link link₂ (talk place earlier) bytes g parts.1 it fresh) (link.said, g.goes_on, roomy)
-        (answered_holds answers over h h₂ link link₂ (talk place earlier) bytes g parts.1 it going parts.2 (refl, keeps.1, keeps.2, keeps.3, keeps.4)) refl keeps.0 tt
+        (answered_holds answers over h h₂ link link₂ (talk place earlier) bytes g parts.1 it going parts.2 (refl, keeps.1, keeps.2, keeps.3, keeps.4, keeps.5)) refl keeps.0 tt
     found_goes (found.Last bytes) moved due roomy fresh (it, why) keeps =
         let parts = due_parts link due in
         let g : IsGoing (talk place earlier) link = holds (talk place earlier) link Open parts.0 kept in
         goes_by did answers over place below start first earlier (Answered it.turn (over h₂)) p h₂ link₂ 0 0 moved (λ t. ⊤) runs.right runs.happens
         (h, runs.answered, on₁, it.step, refl) (next_is answers over h h₂ link link₂ (talk place earlier) bytes g parts.1 it fresh) (link.said, g.goes_on, roomy)
-        (last_holds answers over h h₂ link link₂ (talk place earlier) bytes g parts.1 it why (refl, keeps.1, keeps.2)) refl keeps.0 tt
+        (last_holds answers over h h₂ link link₂ (talk place earlier) bytes g parts.1 it why (refl, keeps.1, keeps.2, keeps.3)) refl keeps.0 tt
     found_goes (found.Refused bytes) moved due roomy fresh f keeps =
         let parts = due_parts link due in
         let g : IsGoing (talk place earlier) link = holds (talk place earlier) link Open parts.0 kept in
         goes_by did answers over place below start first earlier (Refused f.broken) p h₂ link₂ 0 0 moved (λ t. ⊤) runs.right runs.happens
         (subst (λ v. AreAnswered answers over first earlier v) (sym f.stays.same_handler) runs.answered)
         (record { rest = link.said; goes_on = g.goes_on; some = f.some; fails = fails_in (talk place earlier) link.said f.broken f.never }) tt
-        (refused_holds link link₂ (talk place earlier) f.broken g parts.1 keeps.2 (keeps.1 ∙ f.spelled)) refl keeps.0 tt
+        (refused_holds link link₂ (talk place earlier) f.broken g parts.1 keeps.2 (keeps.1 ∙ f.spelled) (keeps.3 ∙ ap (λ (xs : List ℕ). length xs) f.spelled)) refl keeps.0 tt
     found_goes found.NotYet moved due roomy fresh (stays, unfinished) keeps =
         let parts = due_parts link due in
         let g : IsGoing (talk place earlier) link = holds (talk place earlier) link Open parts.0 kept in
@@ -171,6 +187,7 @@ module _ {P H : Type 0} (did : P → Step → P → Type 0) (answers : Answering
           counted = g.counted ∙ sym keeps.2;
           owes = g.owes ∙ ap (λ v. (talk place earlier).took ++ v) (sym keeps.1);
           awaited = λ has. subst IsUnfinished (sym stays.same_bytes) unfinished;
+          sized = λ some. absurd (let none = sym some ∙ ap is_none (keeps.1 ∙ parts.1) in cc);
         })) keeps.0 tt)
 
     -- the same whether a message was due or not
@@ -202,12 +219,13 @@ module _ {P H : Type 0} (did : P → Step → P → Type 0) (answers : Answering
           is_open = s.going.is_open;
           done = inr (inl (subst (λ v. GoesOn (talk place earlier) v) none s.going.goes_on, s.ended));
           owes = s.going.owes;
+          sized = s.going.sized;
         })) unmoved tt
     ended_goes Ended is (inr (has, some, owes)) =
         let s : HasSaidAll (talk place earlier) link = holds (talk place earlier) link Ended is kept in
         goes_by did answers over place below start first earlier (Refused BadHttp) p h link₂ 0 0 moved (λ t. ⊤) runs.right runs.happens runs.answered
         (record { rest = link.said; goes_on = s.going.goes_on; some = some_bytes link.said some; fails = inr (s.part.none, s.ended) }) tt
-        (refused_holds link link₂ (talk place earlier) BadHttp s.going s.nothing owes.stage_is owes.pending) refl has tt
+        (refused_holds link link₂ (talk place earlier) BadHttp s.going s.nothing owes.stage_is owes.pending owes.size) refl has tt
 
     -- the same at the connection's own stage
     pub goes_ended : HasEnded link link₂ moved → GoesFrom did answers over place p h link₂ 0 0 moved (λ t. ⊤) start first earlier
@@ -291,6 +309,7 @@ awaited_holds t link link₂ (inr (due, unsaid, awaited)) h =
       counted = g.counted;
       owes = g.owes;
       awaited = λ waits. subst IsUnfinished (sym unsaid) none_unfinished;
+      sized = g.sized;
     }))
 
 module _ {P H : Type 0} (did : P → Step → P → Type 0) (answers : Answering H) (over : H → Bool) (place : ℕ) (start : P) (first : H) (earlier : List Step) (p : P) (h : H) where
@@ -329,6 +348,7 @@ held_still t link is g = held (acted Held t) link Open is (record {
   counted = g.counted;
   owes = g.owes;
   awaited = g.awaited;
+  sized = g.sized;
 })
 
 -- and of one that failed
@@ -493,6 +513,7 @@ admitted_holds t link₂ unused = held (acted Came t) link₂ Open unused.stage_
   counted = sym unused.messages;
   owes = sym unused.pending;
   awaited = λ waits. absurd (let never = sym unused.unseen ∙ waits in cc);
+  sized = λ some. absurd (let none = sym some ∙ ap is_none unused.pending in cc);
 })
 
 module _ {P H : Type 0} (did : P → Step → P → Type 0) (answers : Answering H) (over : H → Bool) (place : ℕ) (below : place < 64) (start : P) (first : H) (earlier : List Step)

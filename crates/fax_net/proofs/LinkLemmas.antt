@@ -87,6 +87,7 @@ said_fits link said bytes e a t h =
             counted = g.counted;
             owes = g.owes;
             awaited = λ no. absurd cc;
+            sized = g.sized;
           }),
     )
 
@@ -123,7 +124,7 @@ took_fits link n pending₂ e o t h = by link.stage refl
         let g : IsGoing t link = holds t link Open is h in (
           (drop n link.pending, owes_front t link.pending pending₂ n e g.owes),
           held (acted (Took (take n link.pending)) t) (record link { pending = pending₂ }) Open is
-              (record { is_open = g.is_open; goes_on = record { reads = g.goes_on.reads; going = g.goes_on.going; below = g.goes_on.below; unrefused = g.goes_on.unrefused }; counted = g.counted; owes = owes_behind t link.pending pending₂ n e g.owes; awaited = g.awaited }),
+              (record { is_open = g.is_open; goes_on = record { reads = g.goes_on.reads; going = g.goes_on.going; below = g.goes_on.below; unrefused = g.goes_on.unrefused }; counted = g.counted; owes = owes_behind t link.pending pending₂ n e g.owes; awaited = g.awaited; sized = λ some. g.sized parts.1 }),
         )
     by Ended is =
         let g : HasSaidAll t link = holds t link Ended is h in absurd (let no = sym parts.1 ∙ ap is_none g.nothing in cc)
@@ -131,7 +132,7 @@ took_fits link n pending₂ e o t h = by link.stage refl
         let g : IsEnding t link = holds t link Ending is h in (
           (drop n link.pending, owes_front t link.pending pending₂ n e g.owes),
           held (acted (Took (take n link.pending)) t) (record link { pending = pending₂ }) Ending is
-              (record { is_open = g.is_open; done = done_still t (take n link.pending) g.done; owes = owes_behind t link.pending pending₂ n e g.owes }),
+              (record { is_open = g.is_open; done = done_still t (take n link.pending) g.done; owes = owes_behind t link.pending pending₂ n e g.owes; sized = λ some. g.sized parts.1 }),
         )
 
 -- ---- nothing to do

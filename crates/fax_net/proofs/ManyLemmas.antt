@@ -1,7 +1,5 @@
 -- All places, one after the other.
-use Rattle.std.proofs.Common.{◌≡◌, ◌⊎◌, ℕ, ◌+◌, ◌-◌, ◌^◌, ◌<◌, ◌≤◌, Bool, true, false, ◌||◌, List, [], ◌∷◌, length, get_or, set, refl, ap, sym, ◌∙◌, subst, inl, inr, arith, length-set, get_or-set_same, get_or-set_other}
-use Rattle.std.proofs.lemmas.Bool.{eq-eqb, eqb-true}
-use Rattle.std.specs.Prelude.{nat_eq}
+use Rattle.std.proofs.Common.{◌≡◌, ℕ, ◌+◌, ◌-◌, ◌^◌, ◌<◌, ◌≤◌, Bool, true, false, ◌||◌, List, [], ◌∷◌, length, get_or, set, refl, ap, sym, ◌∙◌, subst, inl, inr, arith, length-set, get_or-set_same, get_or-set_other}
 use Rattle.fax_http.specs.Serving.{Answering}
 use Rattle.fax_net.specs.History.{GoesOn, IsAttended, IsDone, Looked, Step, Talk, comings, looked, looks, talk}
 use Rattle.fax_net.specs.Link.{HasSaidAll, Holds, IsEnding, IsGoing}
@@ -118,7 +116,7 @@ goes_looked t rest g = record { reads = g.reads; going = g.going; below = g.belo
 
 -- what is kept of it does
 going_looked : (t : Talk) (link : Link) → IsGoing t link → IsGoing (looked t) link
-going_looked t link g = record { is_open = g.is_open; goes_on = goes_looked t link.said g.goes_on; counted = g.counted; owes = g.owes; awaited = g.awaited }
+going_looked t link g = record { is_open = g.is_open; goes_on = goes_looked t link.said g.goes_on; counted = g.counted; owes = g.owes; awaited = g.awaited; sized = g.sized }
 
 -- what is done is so past a look
 done_looked : (t : Talk) → IsDone t → IsDone (looked t)
@@ -138,7 +136,7 @@ holds_looked t link h = by link.stage refl
         held (looked t) link Ended is (record { going = going_looked t link s.going; ended = s.ended; nothing = s.nothing; part = s.part })
     by Ending is =
         let e : IsEnding t link = holds t link Ending is h in
-        held (looked t) link Ending is (record { is_open = e.is_open; done = done_looked t e.done; owes = e.owes })
+        held (looked t) link Ending is (record { is_open = e.is_open; done = done_looked t e.done; owes = e.owes; sized = e.sized })
 
 module _ {P H : Type 0} (did : P → Step → P → Type 0) (answers : Answering H) (over : H → Bool) (peers : P) (handler : H) (count : ℕ) where
   -- so often it looked, and so many are still to come

@@ -1,10 +1,11 @@
 -- The room of replies that their peers haven't taken yet.
-use Rattle.std.proofs.Common.{◌≡◌, ℕ, zero, suc, ◌+◌, ◌-◌, ◌<◌, ◌≤◌, Bool, true, false, ◌&&◌, List, [], ◌∷◌, ◌++◌, length, get_or, take, refl, ap, ap₂, sym, ◌∙◌, subst, arith, length-append, inl, inr}
+use Rattle.std.proofs.Common.{◌≡◌, ℕ, zero, suc, ◌+◌, ◌<◌, ◌≤◌, Bool, true, false, not, ◌&&◌, List, [], ◌∷◌, ◌++◌, length, get_or, take, drop, refl, ap, ap₂, sym, ◌∙◌, subst, arith, length-append, inl, inr}
 use Rattle.std.proofs.lemmas.Bool.Decides.{nat_tests}
-use Rattle.std.proofs.lemmas.List.{take_more}
-use Rattle.std.specs.Prelude.{if◌then◌else◌, nat_le}
-use Rattle.fax_net.specs.History.{Step, Talk, owed, room, talk, untaken, untaken_at, untaken_from}
+use Rattle.std.proofs.lemmas.List.{take-append-drop, take_more}
+use Rattle.std.specs.Prelude.{if◌then◌else◌, nat_le, nat_lt}
+use Rattle.fax_net.specs.History.{Step, Talk, last_owed, owed, room, talk, untaken, untaken_at, untaken_from}
 use Rattle.fax_net.specs.Link.{HasSaidAll, Holds, IsEnding, IsGoing, is_taken, untaken_by, untaken_in}
+use Rattle.fax_net.specs.Lists.{is_none}
 use Rattle.fax_net.specs.Many.{AllHold}
 use Rattle.fax_net.specs.declared.link.Link.{Link}
 use Rattle.fax_net.specs.declared.link.Stage.{Stage}
@@ -12,35 +13,46 @@ use Rattle.fax_net.specs.declared.link.Stage.TheVariants.{Free, Open, Ended, End
 use Rattle.fax_net.proofs.LinkLemmas.{holds}
 use Rattle.fax_net.proofs.ListLemmas.{same_or}
 
--- what is pending of a connection that is there is what it hasn't taken
-pending_untaken : (t : Talk) (pending : List ℕ) → t.is_open ≡ true → owed t ≡ t.took ++ pending → untaken_at t ≡ length pending
-pending_untaken t pending is owes =
-    let long : length (owed t) ≡ length t.took + length pending = ap (λ (xs : List ℕ). length xs) owes ∙ length-append t.took pending in
-    ap (λ (b : Bool). if b then length (owed t) - length t.took else 0) is ∙ omega (arith, long)
+-- whether something is pending is whether not all was taken
+pending_untaken : (t : Talk) (pending : List ℕ) (taken : Bool) (size : ℕ) → t.is_open ≡ true → taken ≡ true → owed t ≡ t.took ++ pending
+    → (is_none pending ≡ false → size ≡ length (last_owed t.refused t.turns)) → untaken_at t ≡ (if taken && not (is_none pending) then size else 0)
+pending_untaken t pending taken size is there owes sized =
+    ap (λ (b : Bool). if b && nat_lt (length t.took) (length (owed t)) then length (last_owed t.refused t.turns) else 0) is
+    ∙ by pending owes sized ∙ sym (ap (λ (b : Bool). if b && not (is_none pending) then size else 0) there)
+  where
+    more : (xs : List ℕ) → owed t ≡ t.took ++ xs → length (owed t) ≡ length t.took + length xs
+    more xs o = ap (λ (ys : List ℕ). length ys) o ∙ length-append t.took xs
+
+    by : (xs : List ℕ) → owed t ≡ t.took ++ xs → (is_none xs ≡ false → size ≡ length (last_owed t.refused t.turns))
+        → (if nat_lt (length t.took) (length (owed t)) then length (last_owed t.refused t.turns) else 0) ≡ (if not (is_none xs) then size else 0)
+    by [] o s =
+        let none : nat_lt (length t.took) (length (owed t)) ≡ false = (let same = more [] o in grind (arith, nat_tests)) in
+        ap (λ (b : Bool). if b then length (last_owed t.refused t.turns) else 0) none
+    by (x ∷ xs) o s =
+        let some : nat_lt (length t.took) (length (owed t)) ≡ true = (let long = more (x ∷ xs) o in grind (arith, nat_tests)) in
+        ap (λ (b : Bool). if b then length (last_owed t.refused t.turns) else 0) some ∙ sym (s refl)
 
 -- so is what is kept of each connection
 pub kept_untaken : (t : Talk) (link : Link) → Holds t link → untaken_at t ≡ untaken_by link
 kept_untaken t link h = by link.stage refl
   where
-    taken : (s : Stage) → link.stage ≡ s → is_taken s ≡ true → untaken_by link ≡ length link.pending
-    taken s is there = ap (λ (v : Stage). if is_taken v then length link.pending else 0) is ∙ ap (λ (b : Bool). if b then length link.pending else 0) there
-
     by : (s : Stage) → link.stage ≡ s → untaken_at t ≡ untaken_by link
     by Free is =
-        ap (λ (b : Bool). if b then length (owed t) - length t.took else 0) (holds t link Free is h)
-        ∙ sym (ap (λ (v : Stage). if is_taken v then length link.pending else 0) is)
+        ap (λ (b : Bool). if b && nat_lt (length t.took) (length (owed t)) then length (last_owed t.refused t.turns) else 0) (holds t link Free is h)
+        ∙ sym (ap (λ (v : Stage). if is_taken v && not (is_none link.pending) then link.size else 0) is)
     by Open is =
-        let g : IsGoing t link = holds t link Open is h in pending_untaken t link.pending g.is_open g.owes ∙ sym (taken Open is refl)
+        let g : IsGoing t link = holds t link Open is h in pending_untaken t link.pending (is_taken link.stage) link.size g.is_open (ap is_taken is) g.owes g.sized
     by Ended is =
-        let g : HasSaidAll t link = holds t link Ended is h in pending_untaken t link.pending g.going.is_open g.going.owes ∙ sym (taken Ended is refl)
+        let g : HasSaidAll t link = holds t link Ended is h in
+        pending_untaken t link.pending (is_taken link.stage) link.size g.going.is_open (ap is_taken is) g.going.owes g.going.sized
     by Ending is =
-        let g : IsEnding t link = holds t link Ending is h in pending_untaken t link.pending g.is_open g.owes ∙ sym (taken Ending is refl)
+        let g : IsEnding t link = holds t link Ending is h in pending_untaken t link.pending (is_taken link.stage) link.size g.is_open (ap is_taken is) g.owes g.sized
 
 -- a connection to which nothing is pending has taken all
 pub none_untaken : (t : Talk) (link : Link) → Holds t link → link.pending ≡ [] → untaken_at t ≡ 0
-none_untaken t link h none = kept_untaken t link h ∙ ap (λ (xs : List ℕ). if is_taken link.stage then length xs else 0) none ∙ same (is_taken link.stage)
+none_untaken t link h none = kept_untaken t link h ∙ ap (λ (xs : List ℕ). if is_taken link.stage && not (is_none xs) then link.size else 0) none ∙ same (is_taken link.stage)
   where
-    same : (b : Bool) → ◌≡◌ {A = ℕ} (if b then 0 else 0) 0
+    same : (b : Bool) → ◌≡◌ {A = ℕ} (if b && false then link.size else 0) 0
     same true = refl
     same false = refl
 
@@ -76,6 +88,13 @@ next_untaken links at d within =
     let both : untaken_in (take (at + 1) links) ≡ untaken_in (take at links ++ get_or links at d ∷ []) = ap untaken_in (take_more links at d within) in
     let parts = append_untaken (take at links) (get_or links at d ∷ []) in
     omega (arith, both, parts)
+
+-- of some connections no more is untaken than of all
+pub front_untaken : (links : List Link) (at : ℕ) → untaken_in (take at links) ≤ untaken_in links
+front_untaken links at =
+    let both = append_untaken (take at links) (drop at links) in
+    let all = ap untaken_in (take-append-drop at links) in
+    omega (arith, both, all)
 
 -- what is kept at all places from one on is what they haven't taken
 from_untaken : (history : List Step) (links : List Link) (place more : ℕ) → length links ≡ more

@@ -1,9 +1,9 @@
 -- What a server of many connections did: its history, the newest step first. Each connection has a place, and what became of it is told by the steps at its place alone.
-use Rattle.std.specs.Prelude.{◌≡◌, ◌⊎◌, ℕ, zero, suc, ◌+◌, ◌-◌, ◌<◌, ◌≤◌, ◌==◌, ◌||◌, Bool, true, false, List, [], ◌∷◌, ◌++◌, codes, length, min, take, Option, Some, None, if◌then◌else◌, nat_eq, ⊤}
+use Rattle.std.specs.Prelude.{◌≡◌, ◌⊎◌, ℕ, zero, suc, ◌+◌, ◌<◌, ◌≤◌, ◌==◌, ◌||◌, ◌&&◌, nat_lt, Bool, true, false, List, [], ◌∷◌, ◌++◌, codes, length, min, take, Option, Some, None, if◌then◌else◌, nat_eq, ⊤}
 use Rattle.std.specs.Str.{bytes_eq}
 use Rattle.fax_http.specs.declared.message.Broken.{Broken}
 use Rattle.fax_http.specs.declared.message.Broken.TheVariants.{BadHttp, TooLarge}
-use Rattle.fax_http.specs.Conversation.{EndWithLast, GoOn, Reads, Turn, failure_of, spelled_turns}
+use Rattle.fax_http.specs.Conversation.{EndWithLast, GoOn, Reads, Turn, failure_of, spelled_turn, spelled_turns}
 use Rattle.fax_http.specs.Message.{BeginsWith, IsBad, IsTooLarge, IsUnfinished, StaysBad}
 use Rattle.fax_http.specs.Serving.{Answering}
 
@@ -179,20 +179,30 @@ IsAttended is_busy t = ((is_busy ≡ true) × (t.is_moved ≡ true)) ⊎ IsQuiet
 
 -- ---- room
 
--- replies that their peers haven't taken yet have 64 MB, beside the last one
+-- replies that their peers haven't taken whole have 64 MB, beside the last one
 abbrev pub room : ℕ
 room = 64000000
 
--- how much a connection hasn't taken of what is owed to it, in bytes
-abbrev pub untaken_at : Talk → ℕ
-untaken_at t = if t.is_open then length (owed t) - length t.took else 0
+-- the reply that is owed last
+abbrev pub last_reply : List Turn → List ℕ
+last_reply [] = []
+last_reply (turn ∷ []) = spelled_turn turn
+last_reply (turn ∷ next ∷ turns) = last_reply (next ∷ turns)
 
--- so much haven't those at so many places, from this one on
+abbrev pub last_owed : Option Broken → List Turn → List ℕ
+last_owed None turns = last_reply turns
+last_owed (Some broken) turns = failure_of broken
+
+-- how long the reply is that a connection hasn't taken whole, in bytes
+abbrev pub untaken_at : Talk → ℕ
+untaken_at t = if t.is_open && nat_lt (length t.took) (length (owed t)) then length (last_owed t.refused t.turns) else 0
+
+-- how long those at so many places are, from this one on
 unfoldable pub untaken_from : ℕ → ℕ → List Step → ℕ
 untaken_from place zero history = 0
 untaken_from place (suc more) history = untaken_at (talk place history) + untaken_from (suc place) more history
 
--- so much haven't all
+-- how long all are
 abbrev pub untaken : List Step → ℕ
 untaken history = untaken_from 0 64 history
 

@@ -10,7 +10,7 @@ use Rattle.fax_http.specs.Message.{IsUnfinished}
 use Rattle.fax_net.specs.declared.link.Link.{Link}
 use Rattle.fax_net.specs.declared.link.Stage.{Stage}
 use Rattle.fax_net.specs.declared.link.Stage.TheVariants.{Free, Open, Ended, Ending}
-use Rattle.fax_net.specs.History.{GoesOn, IsDone, Talk, asks_for_listing, owed}
+use Rattle.fax_net.specs.History.{GoesOn, IsDone, Talk, asks_for_listing, last_owed, owed}
 use Rattle.fax_net.specs.Lists.{is_none}
 
 abbrev pub is_open : Stage → Bool
@@ -51,9 +51,9 @@ is_owing link = is_taken link.stage && not (is_none link.pending)
 abbrev pub is_held : Bool → Link → Bool
 is_held is_full link = is_full && (is_due link && asks_for_listing link.said)
 
--- how many bytes are to be written to it
+-- how long the reply is of which something is to be written to it
 abbrev pub untaken_by : Link → ℕ
-untaken_by link = if is_taken link.stage then length link.pending else 0
+untaken_by link = if is_owing link then link.size else 0
 
 -- to all
 abbrev pub untaken_in : List Link → ℕ
@@ -75,6 +75,7 @@ pub record IsGoing (t : Talk) (link : Link) : Type 0 where
   pub counted : length t.turns ≡ link.messages
   pub owes : owed t ≡ t.took ++ link.pending
   pub awaited : link.is_awaited ≡ true → IsUnfinished link.said
+  pub sized : is_none link.pending ≡ false → link.size ≡ length (last_owed t.refused t.turns)
 
 -- it says no more, and that isn't answered yet
 pub record HasSaidAll (t : Talk) (link : Link) : Type 0 where
@@ -88,6 +89,7 @@ pub record IsEnding (t : Talk) (link : Link) : Type 0 where
   pub is_open : t.is_open ≡ true
   pub done : IsDone t
   pub owes : owed t ≡ t.took ++ link.pending
+  pub sized : is_none link.pending ≡ false → link.size ≡ length (last_owed t.refused t.turns)
 
 abbrev pub HoldsAt : Stage → Talk → Link → Type 0
 HoldsAt Free t link = t.is_open ≡ false
@@ -106,6 +108,7 @@ pub record Owes (link link₂ : Link) (bytes : List ℕ) (stage : Stage) : Type 
   pub stage_is : link₂.stage ≡ stage
   pub said : link₂.said ≡ link.said
   pub pending : link₂.pending ≡ bytes
+  pub size : link₂.size ≡ length bytes
   pub messages : link₂.messages ≡ link.messages
   pub is_awaited : link₂.is_awaited ≡ link.is_awaited
 
@@ -129,9 +132,9 @@ AwaitsNext link link₂ = (link₂ ≡ link) ⊎ ((is_due link ≡ true) × (lin
 abbrev pub Keeps : Found → Link → Link → Bool → Type 0
 Keeps (Answered bytes) link link₂ moved =
     (moved ≡ true) × (link₂.pending ≡ bytes) × (link.messages < 1000 → link₂.messages ≡ link.messages + 1) × (link₂.is_awaited ≡ link.is_awaited)
-    × (((link₂.stage ≡ Open) × (link₂.messages < 1000)) ⊎ ((link₂.stage ≡ Ending) × (1000 ≤ link₂.messages)))
-Keeps (Last bytes) link link₂ moved = (moved ≡ true) × (link₂.pending ≡ bytes) × (link₂.stage ≡ Ending)
-Keeps (Refused bytes) link link₂ moved = (moved ≡ true) × (link₂.pending ≡ bytes) × (link₂.stage ≡ Ending)
+    × (((link₂.stage ≡ Open) × (link₂.messages < 1000)) ⊎ ((link₂.stage ≡ Ending) × (1000 ≤ link₂.messages))) × (link₂.size ≡ length bytes)
+Keeps (Last bytes) link link₂ moved = (moved ≡ true) × (link₂.pending ≡ bytes) × (link₂.stage ≡ Ending) × (link₂.size ≡ length bytes)
+Keeps (Refused bytes) link link₂ moved = (moved ≡ true) × (link₂.pending ≡ bytes) × (link₂.stage ≡ Ending) × (link₂.size ≡ length bytes)
 Keeps NotYet link link₂ moved =
     (moved ≡ false) × (link₂.pending ≡ link.pending) × (link₂.messages ≡ link.messages) × (link₂.is_awaited ≡ true) × (link₂.stage ≡ link.stage)
 

@@ -1,5 +1,5 @@
 //! What a server keeps of one connection: what it said and isn't answered yet, and what is still to be written to it.
-ghost use Rattle.std.specs.Prelude.{◌≡◌, ◌≤◌, ◌<◌, ◌^◌, ◌⊎◌, IsTrue, ◌↔◌, IfOk};
+ghost use Rattle.std.specs.Prelude.{◌≡◌, ◌≤◌, ◌<◌, ◌⊎◌, IsTrue, ◌↔◌, IfOk};
 ghost use Rattle.fax_net.specs.History.{asks_for_listing};
 ghost use Rattle.fax_net.specs.Link.{AwaitsNext, HasEnded, IsUnused, Owes, awaits, is_done, is_due, is_held, is_owing, untaken_by};
 
@@ -34,6 +34,8 @@ pub(crate) struct Link {
     pub(crate) said: Buffer,
     /// What is still to be written.
     pub(crate) pending: Pending,
+    /// How long the reply is of which that is the rest, in bytes.
+    pub(crate) size: u128,
     /// How many messages were answered.
     pub(crate) messages: u32,
     /// Whether it is known that no message is there to its end.
@@ -49,6 +51,7 @@ impl Link {
             stage: Stage::Free,
             said: Buffer::new(alloc)?,
             pending: Pending::nothing(),
+            size: 0,
             messages: 0,
             is_awaited: false,
         })
@@ -70,6 +73,7 @@ impl Link {
         ensures { Owes self.old self.new reply stage }
     {
         self.pending = Pending::all_of(reply);
+        self.size = self.pending.len();
         self.stage = stage;
     }
 
@@ -117,15 +121,11 @@ impl Link {
         is_full && self.is_due() && asks_for_listing(self.said.bytes())
     }
 
-    /// How many bytes are to be written to it.
+    /// How long the reply is of which something is to be written to it, in bytes.
     pub(crate) fn untaken(&self) -> u128
-        ensures untaken { result ≡ untaken_by self.now }
-        ensures bound { result < 2 ^ 65 }
+        ensures { result ≡ untaken_by self.now }
     {
-        if self.is_free() {
-            return 0;
-        }
-        self.pending.len()
+        if self.is_owing() { self.size } else { 0 }
     }
 
     /// Whether more of its next message is to be read.

@@ -14,7 +14,7 @@ use std::alloc::{AllocError, Global};
 /// How many connections are served at once.
 pub(crate) const PLACES: usize = 64;
 
-/// How many bytes the replies may have that their peers haven't taken yet while a listing is begun.
+/// How many bytes the replies may have that their peers haven't taken whole while a listing is begun.
 const ROOM: u128 = 64_000_000;
 
 /// The most bytes of one read.
@@ -76,19 +76,22 @@ fn is_full(links: &[Link], place: usize) -> bool
     requires within { place < PLACES }
     ensures { (d : KeptLink) → result ≡ (is_taken (get_or links.now place d).stage && nat_le room (untaken_in links.now)) }
 {
-    !links[place].is_free() && untaken(links) >= ROOM
+    !links[place].is_free() && fill_room(links)
 }
 
-/// How many bytes of replies their peers haven't taken yet.
-fn untaken(links: &[Link]) -> u128
-    requires { length links.now ≡ PLACES }
-    ensures { result ≡ untaken_in links.now }
+/// Whether the replies that their peers haven't taken whole fill the room that they have.
+fn fill_room(links: &[Link]) -> bool
+    ensures { result ≡ nat_le room (untaken_in links.now) }
 {
-    let mut untaken = 0;
+    let mut left = ROOM;
     for link in links {
-        untaken += link.untaken();
+        let untaken = link.untaken();
+        if left <= untaken {
+            return true;
+        }
+        left -= untaken;
     }
-    untaken
+    false
 }
 
 /// Whether nobody is there.

@@ -1,5 +1,5 @@
 //! What is still to be written of a reply.
-ghost use Rattle.std.specs.Prelude.{◌≡◌, ◌+◌, ◌<◌, ◌≤◌, ◌^◌, ◌++◌, [], drop, length};
+ghost use Rattle.std.specs.Prelude.{◌≡◌, ◌+◌, ◌≤◌, ◌++◌, [], drop, length};
 ghost use Rattle.fax_net.specs.Lists.{is_none};
 
 use fax_http::Outgoing;
@@ -58,8 +58,7 @@ impl Pending {
 
     /// How many bytes they are.
     pub(crate) fn len(&self) -> u128
-        ensures length { result ≡ length self.now }
-        ensures bound { result < 2 ^ 65 }
+        ensures { result ≡ length self.now }
     {
         let (front, back) = self.parts();
         front.len() as u128 + back.len() as u128

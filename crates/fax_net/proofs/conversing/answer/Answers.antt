@@ -22,6 +22,7 @@ returns-in-Answered g c =
           | inl (going_on, few) ↦ inl (c.owe.ensures.stage_is ∙ going_on, omega (arith, few, c.owe.ensures.messages))
           | inr (ending, above) ↦ inr (c.owe.ensures.stage_is ∙ ending, omega (arith, above, c.owe.ensures.messages))
         ],
+        c.owe.ensures.size,
       ),
     )
 
@@ -34,5 +35,5 @@ returns-in-Last g c =
       unheld,
       Last c.in-Last.reply,
       subst (λ v. Finds g.H.Handler.answers g.H.Handler.over c.args.handler.now c.answer_front.new.handler c.args.link.now.said v (Last c.in-Last.reply)) (sym c.owe-in-Last.ensures.said) c.in-Last.ensures,
-      (refl, c.owe-in-Last.ensures.pending, c.owe-in-Last.ensures.stage_is),
+      (refl, c.owe-in-Last.ensures.pending, c.owe-in-Last.ensures.stage_is, c.owe-in-Last.ensures.size),
     )
