@@ -29,7 +29,7 @@ GIVEN = 100_000  # kept replies of a client
 GIVEN_UP = 4 << 20  # bytes more than before
 UNREAD = 24  # peers that ask for a listing and don't read it
 LONG = 100_000  # jobs of their listings
-ROOM = 64_000_000  # bytes that replies have which aren't read yet, beside the last one
+ROOM = 64_000_000  # bytes that replies have which aren't read whole, beside the last one
 EXTRA = "a:\n" * 21_800  # extra lines, as many as a body has room for
 
 

@@ -259,19 +259,22 @@ def stubborn(port, stack, count):
 
 @check
 def unread(folder):
-    """While 64 or 200 peers read nothing of their replies and have more requests unread in their sockets, a request is
-    answered within a second, and the server doesn't spin."""
+    """While 64 or 200 peers read nothing of their replies and have more requests unread in their sockets, these are sent away
+    for others: a request is answered within a second, eight clients that keep their connections open keep them, and the
+    server doesn't spin."""
     for count in 64, 200:
-        (folder / f"{count}").mkdir()
-        with attempt(f"{count} peers that read nothing"), serving(folder / f"{count}") as server, \
-                contextlib.ExitStack() as stack:
+        with attempt(f"{count} peers that read nothing"), contextlib.ExitStack() as stack, \
+                Server(folder / f"{count}.db", *MANY, "--timeout", "300") as server:
             order = f"number:5550111\ntotpages:20\nnote:{60000 * 'x'}\n"
             expect(answer_to(server.port, post("/jobs", 1, order, fields=CLOSE))[0] == 201, "a fax isn't accepted")
             stubborn(server.port, stack, count)
-            settle(server)  # until what the system buffers for these is full
-            time.sleep(0.6)
+            settle(server)  # until all have come whose turn it is, and what the system buffers for them is full
             used = server.processor()
             took = times(server.port, 20)
+            clients = [stack.enter_context(Peer(server.port, patience=3)) for _ in range(8)]
+            for asked in 1, 2:
+                for number, client in enumerate(clients):
+                    client.asks(get("/jobs/999999"), NO_JOB, f"client {number}, asking for the {asked}. time")
             time.sleep(1)
             used = server.processor() - used
             say(f"beside {count} peers that read nothing a request takes {took[-1]:.3f} s at most, and {used:.2f} s of a processor "
@@ -348,12 +351,14 @@ def misses_files(folder):
         time.sleep(0.3)
         served = [peer for peer in peers if select.select([peer.socket], [], [], 0)[0]]
         expect(1 <= len(served) < 20, f"with 20 files {len(served)} of 30 peers are served")
-        time.sleep(max(0, start + (40 - len(served)) * REFUSED + 0.5 - time.monotonic()))
-        expect(server.process.poll() is None, "it ends while peers are there")
+        for peer in served:
+            expect(peer.reply() == NO_JOB, "who is accepted isn't answered")
+        while time.monotonic() < start + (40 - len(served)) * REFUSED + 0.5:
+            time.sleep(0.3)
+            for peer in served:  # who goes on asking isn't sent away
+                peer.asks(get("/jobs/999999"), NO_JOB, "one that is there")
         used = server.processor()
         for peer in served:
-            peer.say(get("/jobs/999999"))
-            expect(peer.reply() + peer.reply() == 2 * NO_JOB, "who is there isn't answered")
             peer.socket.close()
         server.ends("once they have left")
         expect(used < 0.2, f"without files it uses {used:.2f} s of a processor")

@@ -442,12 +442,12 @@ class Server:
         return int(pathlib.Path(f"/proc/{self.process.pid}/schedstat").read_text().split()[0]) / 1e9
 
 
-def settle(server):
-    """Waits until the server has nothing to do for a while."""
+def settle(server, pause=1):
+    """Waits until the server has nothing to do for so many seconds."""
     used = -1.0
     while server.processor() - used > 0.02:
         used = server.processor()
-        time.sleep(0.3)
+        time.sleep(pause)
 
 
 measured = []  # before the checks are run, since a busy machine would be given more time
