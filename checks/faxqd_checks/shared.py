@@ -442,10 +442,11 @@ class Server:
         return int(pathlib.Path(f"/proc/{self.process.pid}/schedstat").read_text().split()[0]) / 1e9
 
 
-def settle(server, pause=1):
-    """Waits until the server has nothing to do for so many seconds."""
-    used = -1.0
+def settle(server, pause=1, limit=60):
+    """Waits until the server has nothing to do for so many seconds, and for `limit` seconds at most."""
+    used, end = -1.0, time.monotonic() + limit
     while server.processor() - used > 0.02:
+        expect(time.monotonic() < end, f"the server is still busy after {limit} s")
         used = server.processor()
         time.sleep(pause)
 
