@@ -27,12 +27,13 @@ abbrev pub ShowsControls : List ℕ → Result Bool OfficeFault → Type 0
 ShowsControls text (Ok found) = ((controls : Rules) × GivesControls text (Ok controls)) × (found ≡ has_unused_control text)
 ShowsControls text (Err fault) = GivesControls text (Err fault)
 
--- both texts say something, and it is known whether a line of them isn't used; or the fault of one of them
+-- both texts say something, and it is known whether a line of them isn't used; of two faults the setup's is told
 abbrev pub ShowsBoth : List ℕ → List ℕ → Result Shown OfficeFault → Type 0
 ShowsBoth setup controls (Ok shown) =
     ((s : Settings) × GivesSetup setup (Ok s)) × ((c : Rules) × GivesControls controls (Ok c))
     × (shown.has_unused ≡ (has_unused_setting setup || has_unused_control controls))
-ShowsBoth setup controls (Err fault) = GivesSetup setup (Err fault) ⊎ GivesControls controls (Err fault)
+ShowsBoth setup controls (Err fault) =
+    GivesSetup setup (Err fault) ⊎ (((s : Settings) × GivesSetup setup (Ok s)) × GivesControls controls (Err fault))
 
 -- both files were read, and that is what comes of their texts
 pub record IsShownBy (files : OfficeFiles) (result : Result Shown OfficeFault) : Type 0 where
@@ -42,7 +43,9 @@ pub record IsShownBy (files : OfficeFiles) (result : Result Shown OfficeFault) :
   pub controls_read : IsReadOf files.controls (Ok controls)
   pub shown : ShowsBoth setup.items controls.items result
 
--- what comes of the files that are named; one of them may be such that it can't be read
+-- what comes of the files that are named; of two that can't be read the setup is told
 abbrev pub IsShownOf : OfficeFiles → Result Shown OfficeFault → Type 0
 IsShownOf files (Ok shown) = IsShownBy files (Ok shown)
-IsShownOf files (Err fault) = IsReadOf files.setup (Err fault) ⊎ (IsReadOf files.controls (Err fault) ⊎ IsShownBy files (Err fault))
+IsShownOf files (Err fault) =
+    IsReadOf files.setup (Err fault)
+    ⊎ ((((setup : Vec ℕ Global) × IsReadOf files.setup (Ok setup)) × IsReadOf files.controls (Err fault)) ⊎ IsShownBy files (Err fault))

@@ -166,7 +166,11 @@ impl Seat {
 
     /// Holds the connection, which isn't the peer's fault: only the time of the whole connection counts. Returns whether
     /// that isn't over.
-    pub(crate) fn hold(&mut self, now: Instant) -> bool {
+    pub(crate) fn hold(&mut self, now: Instant) -> bool
+        ensures moved { self.new.moved ≡ now }
+        ensures stays { (result ≡ false) ↔ ((IsTrue self.old.is_sent_away) ⊎ (as_nanos self.old.patience.whole
+            - (instant_nanos now - instant_nanos self.old.begun) ≡ 0)) }
+    {
         self.moved = now;
         !self.is_over(now)
     }
