@@ -79,8 +79,8 @@ def folder_of(name):
 def tried(name, place):
     """Runs one check, in a process of its own: its faults, what it says or why it isn't tried, and its seconds."""
     start, lacks = time.monotonic(), ""
-    first = 10000 + os.getppid() * 7919 % 6000 + place % 32 * 500  # checks side by side have no port in common
-    shared.ports, shared.faults[:], shared.seen[:] = itertools.cycle(range(first, first + 500)), [], []
+    first = 10000 + os.getppid() * 7919 % 6000 + place % 160 * 100  # checks side by side have no port in common
+    shared.ports, shared.faults[:], shared.seen[:] = itertools.cycle(range(first, first + 100)), [], []
     try:
         with folder_of(name) as folder:
             checks[name].function(folder)
