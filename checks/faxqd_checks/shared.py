@@ -107,7 +107,8 @@ def within(what, holds, patience=PATIENCE, pause=0.05):
     """Waits until something holds, and gives it."""
     until = time.monotonic() + patience
     while not (found := holds()):
-        expect(time.monotonic() < until, f"never comes: {what() if callable(what) else what}")
+        if time.monotonic() >= until:
+            raise Wrong(f"never comes: {what() if callable(what) else what}")
         time.sleep(pause)
     return found
 

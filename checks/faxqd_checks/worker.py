@@ -53,6 +53,7 @@ class Office:
         (folder / "efax").write_text(EFAX)
         (folder / "efax").chmod(0o755)
         (folder / "result").write_text("connected\n")
+        (folder / "errors").touch()
         (folder / "setup").write_text("Modem: ttyS0\n" + NO_WAITS)
         self.server = Server(folder / "queue.db", "--setup", folder / "setup", *MANY)
         self.proxy = Proxy(self.server.port, instead)
@@ -112,12 +113,15 @@ class Office:
         self.keeper.start()
 
     def stop(self):
+        """Ends the worker, also one that is just being started."""
         self.ends = True
-        if self.worker and self.worker.poll() is None:
-            self.worker.kill()
-            self.worker.wait()
-        if self.keeper:
-            self.keeper.join()
+        while True:
+            if self.worker:
+                self.worker.kill()
+                self.worker.wait()
+            if not self.keeper or not self.keeper.is_alive():
+                return
+            self.keeper.join(0.05)
 
     def errors(self):
         return (self.folder / "errors").read_text()
