@@ -52,19 +52,19 @@ key, got, file = sys.argv[1:]
 answer = "lost", ascii(got)[1:-1]
 status, _, content = got.partition(" ")
 try:
-    told = json.loads(open(file, encoding="utf-8").read()) if content.split(";")[0].strip().lower() == "application/json" else None
-    value, word = (told.get(key), told.get("word")) if isinstance(told, dict) else (None, None)
+    received = json.loads(open(file, encoding="utf-8").read()) if content.split(";")[0].strip().lower() == "application/json" else None
+    value, word = (received.get(key), received.get("word")) if isinstance(received, dict) else (None, None)
     if status in ("200", "201") and type(value) is int and 0 < value < 10**18:
         answer = "accepted", value
-    elif status >= "400" and type(told.get("no")) is int and re.fullmatch("[a-z-]{1,32}", str(word)) and word != "unavailable":
-        answer = "refused", word, json.dumps(told).replace("\x7f", "?")
+    elif status >= "400" and type(received.get("no")) is int and re.fullmatch("[a-z-]{1,32}", str(word)) and word != "unavailable":
+        answer = "refused", word, json.dumps(received).replace("\x7f", "?")
 except (AttributeError, OSError, ValueError, RecursionError):
     pass
 print(*answer)
 END
 }
 
-# not_answered WHAT: tells once what came in place of the queue's answer. What was only lost is told at the third time.
+# not_answered WHAT: reports once what came instead of the queue's answer. A reply that was only lost is reported the third time.
 not_answered() {
     tries=$((tries + 1))
     case $text in curl* | 50[234]*) if [ "$tries" -lt 3 ]; then return; fi ;; esac

@@ -38,12 +38,12 @@ got, file = sys.argv[1:]
 answer = "lost", ascii(got)[1:-1]
 status, _, content = got.partition(" ")
 try:
-    told = json.loads(open(file, encoding="utf-8").read()) if content.split(";")[0].strip().lower() == "application/json" else {}
-    body = json.dumps(told, separators=(",", ":")).replace("\x7f", "?")
-    if status in ("200", "201") and type(told.get("job")) is type(told.get("state")) is int:
+    received = json.loads(open(file, encoding="utf-8").read()) if content.split(";")[0].strip().lower() == "application/json" else {}
+    body = json.dumps(received, separators=(",", ":")).replace("\x7f", "?")
+    if status in ("200", "201") and type(received.get("job")) is type(received.get("state")) is int:
         answer = "accepted", body
-    elif status >= "400" and type(told.get("no")) is int and re.fullmatch("[a-z-]{1,32}", str(told.get("word"))):
-        if told["word"] != "unavailable":
+    elif status >= "400" and type(received.get("no")) is int and re.fullmatch("[a-z-]{1,32}", str(received.get("word"))):
+        if received["word"] != "unavailable":
             answer = "refused", body
 except (AttributeError, OSError, ValueError, RecursionError):
     pass
@@ -51,7 +51,7 @@ print(*answer)
 END
 }
 
-# not_answered WHAT: tells once what came in place of the queue's answer. What was only lost is told at the third time.
+# not_answered WHAT: reports once what came instead of the queue's answer. A reply that was only lost is reported the third time.
 not_answered() {
     tries=$((tries + 1))
     case $text in curl* | 50[234]*) if [ "$tries" -lt 3 ]; then return; fi ;; esac

@@ -9,7 +9,7 @@
 #   COMMAND page JOB PAGE   sends one page, and ends with 0 if the receiver confirmed it
 #   COMMAND hangup          ends the call, if there is one
 #
-# Told to stop by SIGTERM, it reports the page that is being sent, hangs up, and ends. It needs curl, flock and python3.
+# On SIGTERM it reports the page that is being sent, hangs up, and ends. It needs curl, flock and python3.
 set -eu
 modem=$1 folder=$2 command=$3
 server=${FAXQD:-http://127.0.0.1:4559}
@@ -42,24 +42,24 @@ kind = path.split("/")[-1]
 def is_number(value):
     return type(value) is int and 0 <= value < 10**18
 
-def grant(told):
+def grant(received):
     """What a grant says, or nothing if it isn't one."""
-    if not isinstance(told, dict):
+    if not isinstance(received, dict):
         return None
-    numbers = [told.get(key) for key in ("grant", "job", "from", "to")]
-    called, dial = told.get("called", False), told.get("number")
+    numbers = [received.get(key) for key in ("grant", "job", "from", "to")]
+    called, dial = received.get("called", False), received.get("number")
     if not all(is_number(number) and number > 0 for number in numbers) or type(called) is not bool:
         return None
     right = isinstance(dial, str) and re.fullmatch(r"\+?[0-9*#]{1,32}", dial)
     return (*numbers, str(called).lower(), dial) if right else None
 
-def accepted(told):
+def accepted(received):
     """The values of a reply that accepts the request, or nothing if it isn't one."""
     if kind == "next":
-        return (0,) if is_number(told.get("grant")) and told["grant"] == 0 else grant(told)
-    right = all(is_number(told.get(key)) for key in NUMBERS.get(kind, []))
+        return (0,) if is_number(received.get("grant")) and received["grant"] == 0 else grant(received)
+    right = all(is_number(received.get(key)) for key in NUMBERS.get(kind, []))
     if right and kind in ("call", "page"):
-        return (str(told["stop"]).lower(),) if type(told.get("stop")) is bool else None
+        return (str(received["stop"]).lower(),) if type(received.get("stop")) is bool else None
     return () if right and kind in ("outcome", "floor") else None
 
 def job(text):
@@ -75,17 +75,17 @@ def read():
     text = open(file, encoding="utf-8", newline="").read()
     if content == "text/plain" and status == "200" and path.startswith("/jobs/"):
         return "accepted", job(text)
-    told = json.loads(text) if content == "application/json" else None
-    if not isinstance(told, dict):
+    received = json.loads(text) if content == "application/json" else None
+    if not isinstance(received, dict):
         return "lost", None
     if status == "200":
-        return "accepted", accepted(told)
-    word = told.get("word")
-    if status >= "400" and is_number(told.get("no")) and re.fullmatch("[a-z-]{1,32}", str(word)) and word != "unavailable":
+        return "accepted", accepted(received)
+    word = received.get("word")
+    if status >= "400" and is_number(received.get("no")) and re.fullmatch("[a-z-]{1,32}", str(word)) and word != "unavailable":
         if kind == "next" and word == "modem-busy":
-            return "accepted", grant(told.get("held"))
-        npages = told["npages"] if is_number(told.get("npages")) else "-"
-        return "refused", (word, npages, json.dumps(told).replace("\x7f", "?"))
+            return "accepted", grant(received.get("held"))
+        npages = received["npages"] if is_number(received.get("npages")) else "-"
+        return "refused", (word, npages, json.dumps(received).replace("\x7f", "?"))
     return "lost", None
 
 try:
@@ -103,7 +103,7 @@ say() {
     printf 'worker.sh: %s\n' "$1" >&2
 }
 
-# not_answered WHAT: tells once what came in place of the queue's answer. What was only lost is told at the third time.
+# not_answered WHAT: reports once what came instead of the queue's answer. A reply that was only lost is reported the third time.
 not_answered() {
     tries=$((tries + 1))
     case $text in curl* | 50[234]*) if [ "$tries" -lt 3 ]; then return; fi ;; esac

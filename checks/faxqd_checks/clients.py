@@ -64,7 +64,7 @@ def strange_answers(folder):
                     status, out, err = ran([shell, EXAMPLES / kind, place / "kept", place / "file"], proxy.url, CLIENT=f"c{shell}-{kind}")
                     job = 2 * number + 1 + (kind == "import.sh")
                     expect(status == 0 and str(job) in out, f"it ends with {status}, and says {out!r} and {err!r}")
-                    expect("isn't answered by the queue" in err or job > 1, f"what came isn't told: {err!r}")
+                    expect("isn't answered by the queue" in err or job > 1, f"what came isn't reported: {err!r}")
                     sent = proxy.seen[count:]
                     first = {number_of(data): data for data in reversed(sent)}
                     expect(all(data == first[number_of(data)] for data in sent), "a request isn't the same when it is sent again")
@@ -72,8 +72,8 @@ def strange_answers(folder):
 
 
 @check
-def told_once(folder):
-    """What comes again and again in place of the queue's answer is told once, and a reply that is lost once or twice isn't."""
+def reported_once(folder):
+    """What comes again and again instead of the queue's answer is reported once, and a reply that is lost once or twice isn't."""
     wants(*SHELLS, "curl", "flock")
     strange = [b"", b""] + [reply(401, "<html>", "text/html")] * 4
     left = []
@@ -236,7 +236,7 @@ def waits(folder):
 
 
 def certificate(folder, proxy, fax):
-    """client.sh is told to trust a certificate, and `fax --wait` isn't."""
+    """client.sh is set to trust a certificate, and `fax --wait` isn't."""
     made = subprocess.run(["openssl", "req", "-x509", "-newkey", "ec", "-pkeyopt", "ec_paramgen_curve:P-256", "-nodes", "-keyout",
                            folder / "key", "-out", folder / "pem", "-days", "2", "-subj", "/CN=127.0.0.1", "-addext",
                            "subjectAltName=IP:127.0.0.1"], capture_output=True, text=True)

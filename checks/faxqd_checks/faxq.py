@@ -1,5 +1,5 @@
 """`examples/faxq` against `serve`: over examples/bad-line.py each command is done once; killed before it is answered it goes
-on, and makes one job; replies that aren't the queue's own say nothing of a request, and those that have to be mended are told
+on, and makes one job; replies that aren't the queue's own say nothing of a request, and those that have to be corrected are reported
 at once; `why` says why a job isn't sent; `again` hands in the pages that weren't confirmed."""
 import json
 import os
@@ -184,7 +184,7 @@ def stopped(folder):
 @check
 def other_requests(folder):
     """Stopped, the same words go on only if they make the same request: from another folder, or with a file that has changed, both
-    are sent, the old one first, and that is told."""
+    are sent, the old one first, and that is reported."""
     port, desk = free_port(), Desk(folder)
     url = f"http://127.0.0.1:{port}"
     for place, pages in ("one", 1), ("two", 2):
@@ -212,7 +212,7 @@ def other_requests(folder):
 
 @check
 def forbidden(folder):
-    """What a proxy lets this user never send stays, and is told, and stops no request about something else."""
+    """What a proxy lets this user never send stays, and is reported, and stops no request about something else."""
     port, desk = free_port(), Desk(folder)
     with serving(folder, port), Proxy(port, lambda data, hand_on: reply(403, "<html>", "text/html") if b"/modems/" in data
                                       else hand_on()) as proxy:
@@ -228,7 +228,7 @@ def forbidden(folder):
 @check
 def reused(folder):
     """A submission that was refused keeps its number when the same words hand it in again; where a late copy was accepted under it
-    meanwhile that is told, and then it gets a new one."""
+    that is reported, and then it gets a new one."""
     port, desk = free_port(), Desk(folder)
     url = f"http://127.0.0.1:{port}"
     with serving(folder, port):
@@ -330,7 +330,7 @@ NOTHING = [
     b"", reply(503, '{"no":27,"word":"unavailable"}'), reply(502, "<html>", "text/html"), reply(504, "<html>", "text/html"),
     reply(201, '{"job":', length=9), reply(500, "[]"), b"HTTP/1.1 201 Cre",
 ]
-# What has to be mended, and how it is told.
+# What has to be corrected, and how it is reported.
 MENDED = [
     (reply(401, "<html>", "text/html"), "password"), (reply(403, "<html>", "text/html"), "password"),
     (reply(403, '{"error":"blocked"}'), "password"), (reply(200, "<html>", "text/html"), "isn't a fax queue"),
@@ -341,7 +341,7 @@ MENDED = [
 
 @check
 def answers(folder):
-    """What isn't the queue's own says nothing of a request; what has to be mended is told at once, and the request is kept."""
+    """What isn't the queue's own says nothing of a request; what has to be corrected is reported at once, and the request is kept."""
     desk = Desk(folder)
     with attempt("what says nothing"), Answers(*NOTHING, TAKEN) as peer:
         status, out, err = desk.says(f"http://127.0.0.1:{peer.port}", *FAX)
@@ -363,7 +363,7 @@ def answers(folder):
 
 @check
 def faults(folder):
-    """Where nobody listens faxq tells it at once, and goes on trying; words at fault are told, and nothing is sent."""
+    """Where nobody listens faxq reports it at once, and goes on trying; wrong arguments are reported, and nothing is sent."""
     port, desk = free_port(), Desk(folder)
     asker = desk.start(f"http://127.0.0.1:{port}", *FAX)
     said = asker.stderr.readline()
@@ -422,9 +422,9 @@ class Queue:
         expect(status == 0 and re.fullmatch(f"job {job} {wanted}\n", out), f"why {job} says {status} {out!r} {err!r}")
 
     def grant(self, modem, job):
-        told = ask(self.port, f"/modems/{modem}/next", next(self.numbers))
-        expect(told.get("job") == job, f"{modem} gets {told}, and should get job {job}")
-        return told["grant"]
+        received = ask(self.port, f"/modems/{modem}/next", next(self.numbers))
+        expect(received.get("job") == job, f"{modem} gets {received}, and should get job {job}")
+        return received["grant"]
 
     def report(self, grant, what, **body):
         said = ask(self.port, f"/grants/{grant}/{what}", next(self.numbers), body)
@@ -455,7 +455,7 @@ def called_and_tried(queue, letter):
     queue.why(1, "is being sent: a modem has it, and 0 of 3 pages were confirmed")
     queue.why(2, r"waits since 888 is being called: job 1, of 1 that there may be \(rule \^888\$ of .*controls\)", *queue.office)
     queue.why(2, r"waits since 888 is being called: job 1")
-    queue.does("job 1 is active: a modem has it, and is told to stop", "suspend", "1")
+    queue.does("job 1 is active: a modem has it, and is asked to stop", "suspend", "1")
     queue.does("job 1 is active", "resume", "1")
     queue.report(first, "call", result="connected")
     queue.report(first, "page", page=1)

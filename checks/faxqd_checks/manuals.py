@@ -55,8 +55,8 @@ def has_options(manual, name):
     """The manual has each option of this command, with its default, and the shell completes them."""
     synopsis = re.search(rf"(?ms)^\.Cm {name}$(.*?)^\.(?:Nm|Sh)", manual)[1]
     options = options_of(told_by(said.program, name, "--help").stdout)
-    told = {f"-{one}" for one in re.findall(r"\bFl (\S+)", synopsis)}
-    expect(told == set(options), f"{name} has {sorted(options)}, and the manual {sorted(told)}")
+    listed = {f"-{one}" for one in re.findall(r"\bFl (\S+)", synopsis)}
+    expect(listed == set(options), f"{name} has {sorted(options)}, and the manual {sorted(listed)}")
     text = re.search(rf"(?ms)^\.Ss {name}$(.*?)^\.S[hs]", manual)[1]
     for option in sorted(set(options) - {"--setup", "--controls"}):
         with attempt(f"{name} {option}"):
@@ -102,10 +102,10 @@ def faxq_page(folder):
             expect(not variable or f"\n.Ev {variable} ,\n" in item, f"the manual hasn't the variable of {option}")
             expect(re.search(rf"(?ms)^Without it,.*{re.escape(value or number)}", item), f"the manual has another default of {option}")
     variables = set(re.findall(r'environ\.get\("(\w+)"', source))
-    told = set(re.search(r"(?m)^\.It Ev (.*)$", manual)[1].split(" , "))
-    expect(told == variables, f"the manual has the variables {sorted(told)}, and faxq {sorted(variables)}")
-    statuses, told = re.findall(r"\b\d\b", re.search(r"It ends with .*", source)[0]), re.findall(r"(?m)^\.It (\d)$", manual)
-    expect(told == statuses, f"the manual has the statuses {told}, and faxq {statuses}")
+    listed = set(re.search(r"(?m)^\.It Ev (.*)$", manual)[1].split(" , "))
+    expect(listed == variables, f"the manual has the variables {sorted(listed)}, and faxq {sorted(variables)}")
+    statuses, listed = re.findall(r"\b\d\b", re.search(r"It ends with .*", source)[0]), re.findall(r"(?m)^\.It (\d)$", manual)
+    expect(listed == statuses, f"the manual has the statuses {listed}, and faxq {statuses}")
 
 
 def is_told(part, name, options):
@@ -120,8 +120,8 @@ def is_told(part, name, options):
 def formats(folder):
     """The manual of the files has each fault and each name that the program knows, and its examples are taken."""
     manual = FORMATS.read_text()
-    words, told = kinds(), set(re.findall(r"(?m)^\.It ([a-z]+-[a-z]+)$", manual))
-    expect(words and words == told, f"the check files knows the faults {sorted(words)}, and the manual {sorted(told)}")
+    words, listed = kinds(), set(re.findall(r"(?m)^\.It ([a-z]+-[a-z]+)$", manual))
+    expect(words and words == listed, f"the check files knows the faults {sorted(words)}, and the manual {sorted(listed)}")
     setup, controls, job = re.findall(r"(?ms)^\.Bd -literal -offset indent\n(.*?)^\.Ed", manual)
     (folder / "setup").write_text(setup)
     (folder / "controls").write_text(controls.replace("\\&", ""))

@@ -57,7 +57,7 @@ class Proxy:
         """Starts nginx in front of a queue at this port, or starts it again."""
         self.stop()
         (self.folder / "nginx.conf").write_text(self.configuration(queue))
-        # `daemon off` has nginx end with its workers when it is told to, and not when it is killed.
+        # `daemon off` has nginx end with its workers when it gets SIGTERM, and not when it is killed.
         self.process = subprocess.Popen(["nginx", "-c", self.folder / "nginx.conf", "-p", self.folder],
                                         stdin=subprocess.DEVNULL, stdout=subprocess.DEVNULL, stderr=subprocess.PIPE, text=True)
         within(self.says, lambda: self.process.poll() is not None or not is_free(self.port))

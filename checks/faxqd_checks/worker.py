@@ -161,7 +161,7 @@ def efax_worker(folder):
 @check
 def strange_answers(folder):
     """What isn't the queue's answer to the request, as a proxy's 401, 403, 404, 429, 200 or redirect, isn't taken for one: each
-    page is sent once, each request goes out until the queue answers it, the same to the byte, and what came is told once."""
+    page is sent once, each request goes out until the queue answers it, the same to the byte, and what came is reported once."""
     def part(office):
         office.proxy.instead = Strange()
         office.ask("/jobs", "number:5550111\ntotpages:3\ntiff:0::document.tif\n")
@@ -173,15 +173,15 @@ def strange_answers(folder):
         expect((office.did(), office.starts) == (wanted, 1), f"the modem did {office.did()}, after {office.starts} starts; the worker says {office.errors()}")
         sent = {number_of(data): data for data in office.proxy.seen}
         expect(all(data == sent[number_of(data)] for data in office.proxy.seen), "a request isn't the same when it is sent again")
-        expect("isn't answered by the queue" in office.errors(), f"it isn't told: {office.errors()!r}")
+        expect("isn't answered by the queue" in office.errors(), f"it isn't reported: {office.errors()!r}")
         expect("\x1b" not in office.errors(), "a strange answer is printed raw")
 
     each_shell(folder, part, *efax_worker(folder))
 
 
 @check
-def told_once(folder):
-    """What comes again and again in place of the queue's answer is told once, and a reply that is lost once or twice isn't."""
+def reported_once(folder):
+    """What comes again and again instead of the queue's answer is reported once, and a reply that is lost once or twice isn't."""
     def part(office):
         count = iter(range(100))
 
@@ -192,8 +192,8 @@ def told_once(folder):
         office.proxy.instead = instead
         office.start()
         within("the queue is asked", lambda: len(office.proxy.seen) > 11, LONG)
-        told = [line.split(": ", 1)[1] for line in office.errors().splitlines()]
-        expect(told == ["/modems/ttyS0/next isn't answered by the queue: 401 text/html; trying again"], f"it says {told}")
+        lines = [line.split(": ", 1)[1] for line in office.errors().splitlines()]
+        expect(lines == ["/modems/ttyS0/next isn't answered by the queue: 401 text/html; trying again"], f"it says {lines}")
 
     each_shell(folder, part, EFAX_WORKER)
 
@@ -211,7 +211,7 @@ KEPT = [
 
 @check
 def refused_reports(folder):
-    """A report that is refused when it is sent again is told; one that came too early is kept, and the worker calls nobody;
+    """A report that is refused when it is sent again is reported; one that came too early is kept, and the worker calls nobody;
     one that the queue needs no longer is dropped, and the worker goes on."""
     def part(office):
         for _ in "ab":
