@@ -20,7 +20,7 @@ GOOD, BAD = "number:5550111\ntotpages:1\n", "number:666\ntotpages:1\n"
 
 @contextlib.contextmanager
 def queue(folder, instead=None):
-    """A queue that doesn't serve 666, behind a proxy."""
+    """A queue that refuses 666, with a proxy in front of it."""
     (folder / "setup").write_text("Modem: ttyS0\n")
     (folder / "controls").write_text("^666$\n  RejectNotice = not to \\033 \"job\":7\n")
     with Server(folder / "queue.db", *MANY, "--setup", folder / "setup", "--controls", folder / "controls") as server:

@@ -33,7 +33,7 @@ def patterns(folder):
 
 @check
 def names(folder):
-    """What one login has kept is sent under that login only, though another one loads the page meanwhile."""
+    """What one login has kept is sent under that login only, though another one loads the page."""
     wants("chromium", "chromedriver", "nginx", "openssl")
     with Office(page_file(), folder) as office:
         users = folder / "users"
@@ -63,7 +63,7 @@ def names(folder):
 @check
 def page(folder):
     """A fax whose reply is lost is one job, also when the page is loaded again and when the browser is killed; what a user
-    writes is text and one line, and a number is one; a refused fax is mended under its number; jobs are suspended, resumed and
+    writes is text and one line, and a number is one; a refused fax is corrected under its number; jobs are suspended, resumed and
     killed by the keyboard, and failed ones are shown; each control has a name, nothing is wider than a telephone, and over
     examples/bad-line.py each fax is one job."""
     wants("chromium", "chromedriver", "nginx", "openssl")
@@ -125,7 +125,7 @@ def loaded_again(office, browser, picture):
 
 
 def by_keyboard(office):
-    """Jobs are stopped by the keyboard; what a user writes stays text; a refused fax is mended under its number."""
+    """Jobs are stopped by the keyboard; what a user writes stays text; a refused fax is corrected under its number."""
     line = office.line
     with Browser(office) as browser:
         browser.load()
@@ -165,7 +165,7 @@ def by_keyboard(office):
 
 
 def mended(line, browser):
-    """What a program writes into a field is one line, and a refused fax is mended under its number."""
+    """What a program writes into a field is one line, and a refused fax is corrected under its number."""
     # A line feed that a program puts into the field is no line.
     before = len(line.seen)
     browser.runs("form.elements.number.value = '555'; form.elements.totpages.value = 1; form.elements.jobtag.type = 'hidden';"

@@ -253,7 +253,7 @@ def idle(folder):
 def stubborn(port, stack, count):
     """So many peers that ask for 60 kB two hundred times and read nothing."""
     for _ in range(count):
-        with contextlib.suppress(OSError):  # one that was sent away meanwhile
+        with contextlib.suppress(OSError):  # one that was disconnected
             stack.enter_context(connect(port, 4096)).sendall(200 * b"GET /jobs/1 HTTP/1.1\r\n\r\n")
 
 

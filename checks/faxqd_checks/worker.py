@@ -241,7 +241,7 @@ def kept(office, number, path, body, goes_on):
         goes(office, request, goes_on)
     finally:
         office.stop()
-    silent = office.shell == EFAX_WORKER and not path.startswith("/grants/")  # it asks anew at once
+    silent = office.shell == EFAX_WORKER and not path.startswith("/grants/")  # it asks again at once
     expect(f": {path}, sent again, is refused: {{" in office.errors() or silent, f"it says {office.errors()!r}")
     expect(office.did() == office.called(), f"the modem did {office.did()}")
 

@@ -25,7 +25,7 @@ IsBusy s m t busy = IfSome busy (λ dial. may_call s dial (calls_to dial m) t �
 abbrev pub AreBusy : Settings → Queue → ℕ → List (List ℕ) → Type 0
 AreBusy s m t numbers = (dial : List ℕ) → Has numbers dial → may_call s dial (calls_to dial m) t ≡ false
 
--- a number is remembered too, unless as many are
+-- a number is remembered too, unless 16 are
 abbrev pub with_number : List (List ℕ) → List ℕ → List (List ℕ)
 with_number numbers dial = if nat_lt (length numbers) 16 then numbers ++ dial ∷ [] else numbers
 

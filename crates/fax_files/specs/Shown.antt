@@ -27,7 +27,7 @@ abbrev pub ShowsControls : List ℕ → Result Bool OfficeFault → Type 0
 ShowsControls text (Ok found) = ((controls : Rules) × GivesControls text (Ok controls)) × (found ≡ has_unused_control text)
 ShowsControls text (Err fault) = GivesControls text (Err fault)
 
--- both texts say something, and it is known whether a line of them isn't used; of two faults the setup's is told
+-- both texts say something, and it is known whether a line of them isn't used; of two faults the setup's is returned
 abbrev pub ShowsBoth : List ℕ → List ℕ → Result Shown OfficeFault → Type 0
 ShowsBoth setup controls (Ok shown) =
     ((s : Settings) × GivesSetup setup (Ok s)) × ((c : Rules) × GivesControls controls (Ok c))
@@ -43,7 +43,7 @@ pub record IsShownBy (files : OfficeFiles) (result : Result Shown OfficeFault) :
   pub controls_read : IsReadOf files.controls (Ok controls)
   pub shown : ShowsBoth setup.items controls.items result
 
--- what comes of the files that are named; of two that can't be read the setup is told
+-- what comes of the files that are named; of two that can't be read the setup is named
 abbrev pub IsShownOf : OfficeFiles → Result Shown OfficeFault → Type 0
 IsShownOf files (Ok shown) = IsShownBy files (Ok shown)
 IsShownOf files (Err fault) =

@@ -270,7 +270,7 @@ held_parts is_full link e =
     let inner = both (is_due link) (asks_for_listing link.said) outer.1 in
     (outer.0, inner.0, inner.1)
 
--- what is due doesn't end, and where it asks for a listing nothing is awaited anew
+-- what is due doesn't end, and where it asks for a listing nothing is awaited again
 due_stays : (link link₂ : Link) (moved : Bool) → is_due link ≡ true → HasEnded link link₂ moved → link₂ ≡ link
 due_stays link link₂ moved due ended = (subst (λ (s : Stage). EndsAt s link link₂ moved) (due_parts link due).0 ended).1
 
@@ -292,7 +292,7 @@ ended_none Ended link link₂ moved is (inl (n, all, still)) unmoved none =
     ((λ e. absurd (let never = sym (ap (λ l. l.stage) still) ∙ e in cc)), ending_not_due link₂ (ap (λ l. l.stage) still))
 ended_none Ended link link₂ moved is (inr (has, some, owes)) unmoved none = absurd (let never = sym has ∙ unmoved in cc)
 
--- where nothing was due, nothing is awaited anew
+-- where nothing was due, nothing is awaited again
 next_still : (link link₂ : Link) → AwaitsNext link link₂ → is_due link ≡ false → link₂ ≡ link
 next_still link link₂ (inl still) none = still
 next_still link link₂ (inr (due, unsaid, awaited)) none = absurd (let never = sym none ∙ due in cc)

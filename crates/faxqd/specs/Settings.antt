@@ -16,7 +16,7 @@ module _ {W : Type 0} (contents : W → Option (List ℕ)) (out out₂ : Watched
   abbrev pub Prints : OfficeFiles → Bool → List ℕ → Type 0
   Prints files unused line = (shown : Shown) × IsShownOf files (Ok shown) × (shown.has_unused ≡ unused) × Put contents out out₂ (string_bytes shown.text) false × (line ≡ [])
 
-  -- The status tells whether a line isn't used. Or a file has a fault, and nothing is printed; or the output failed. The last is what is said.
+  -- The status shows whether a line isn't used. Or a file has a fault, and nothing is printed; or the output failed. The last is what is said.
   abbrev pub ShowsSettings : OfficeFiles → Status → List ℕ → Type 0
   ShowsSettings files Success line = Prints files false line
   ShowsSettings files Unused line = Prints files true line

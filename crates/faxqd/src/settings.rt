@@ -9,7 +9,7 @@ use fax_http::Watched;
 use fax_text::OfficeFiles;
 use std::io::Write;
 
-/// Reads the files and prints what they mean. The status tells whether a line of them isn't used.
+/// Reads the files and prints what they mean. The status shows whether a line of them isn't used.
 pub fn settings<'a, W: Write + Drop>(
     rt: &HostRuntime,
     files: OfficeFiles<'a>,
