@@ -1,7 +1,9 @@
 -- What the texts on calls read and write.
-use Rattle.std.proofs.Common.{◌≡◌, ◌≢◌, ◌⊎◌, inl, inr, ◌≤◌, ℕ, pos, List, [], ◌∷◌, ◌++◌, map, filter, drop, Bool, true, not, ◌&&◌, Option, Some, None, MatchOption, IsTrue, refl, sym, ap, subst, ◌∙◌, arith, bytes_eq}
+use Rattle.std.proofs.Common.{◌≡◌, ◌≢◌, ◌⊎◌, inl, inr, ◌≤◌, ℕ, pos, List, [], ◌∷◌, ◌++◌, map, filter, drop, Bool, true, not, ◌&&◌, Option, Some, None, MatchOption, IsTrue, refl, sym, ap, ap₂, subst, ◌∙◌, arith, bytes_eq, IfOk, Result}
+use Rattle.std.proofs.lemmas.Result.{IfOk-weaker}
+use Rattle.fax_tables.specs.declared.fault.StoreFault.{StoreFault}
 use Rattle.sqlite_trees.specs.Tree.{Trees}
-use Rattle.fax_store.proofs.FoundLemmas.{none_passes, row_passes, with_id}
+use Rattle.fax_store.proofs.FoundLemmas.{key_of, none_keyed, none_passes, one_passes, row_passes, text_same, with_id}
 use Rattle.std.proofs.lemmas.List.Elements.{filter_agree}
 use Rattle.std.proofs.Math.Bool.{and-true}
 use Rattle.std.proofs.lemmas.Bool.{both_ways, cond_both, false_from_ne_true, cases_eq}
@@ -21,9 +23,9 @@ use Rattle.sqlite_rules.proofs.ProbeLemmas.{mapped_has}
 use Rattle.sqlite_trees.proofs.ListLemmas.{filter-map}
 use Rattle.fax_schema.specs.declared.statements.TheConstants.{SELECT_OPEN, DELETE_CALLS, INSERT_CALLS}
 use Rattle.fax_store.specs.Adopt.{HasNone}
-use Rattle.fax_store.specs.Grant.{HasCalls, SetsCalls, with_count}
-use Rattle.fax_store.specs.Store.{FindsRow, HasRun}
-use Rattle.fax_tables.specs.Row.{number, call_columns}
+use Rattle.fax_store.specs.Grant.{CallsStand, HasCalls, SetsCalls, with_count}
+use Rattle.fax_store.specs.Store.{FindsRow, HasRun, StandsOrNone}
+use Rattle.fax_tables.specs.Row.{HasNumber, number, call_columns}
 use Rattle.fax_schema.specs.Schema as schema
 use Rattle.fax_schema.specs.Schema.{core_list, core_tables, our_tables, calls_place, calls_tree}
 use Rattle.fax_schema.proofs.RowsLemmas.{all_front, all_given, others_kept}
@@ -131,6 +133,36 @@ module _ (dial : List ℕ) where
   pub calls_found : (old new : State) (count : List ℕ → ℕ) → old.now.schema ≡ our_tables → AreCounted count (map (drop 1) (old.now.trees calls_tree)) → (found : Option Row) → FindsRow SELECT_OPEN.now params old new found
       → MatchOption found (count dial ≡ 0) (λ row. row ≡ number (count dial) ∷ [])
   calls_found old new = counted_found calls_tree SELECT_OPEN.now _ select_open (λ trees. refl) old new
+
+  -- whatever the rows say
+  module _ (tree : ℕ) (sql : List ℕ) (names : List (List ℕ)) (selects : Selects sql tree call_tests call_project names) (plain : (trees : Trees) → overlay trees [] tree ≡ trees tree)
+      (old new : State) (db : Database) (ours : db.schema ≡ our_tables) (now : old.now ≡ db) where
+    -- the number that is read of the row that is found stands in a row beside the text
+    one_stands : (row : Row) (n : ℕ) → FindsRow sql params old new (Some row) → HasNumber row 0 n → StandsOrNone db tree dial n
+    one_stands row n found has =
+        let it = one_passes sql tree call_tests call_project names selects plain params old new db ours now row (number n ∷ []) found (has, tt) in
+        let equal = key_of sql tree call_tests call_project names selects plain params old new db ours now 1 (Text dial) (λ r. refl) it.0 it.2 in
+        inl (record { row = it.0; has = it.1; is = ap₂ ◌∷◌ (text_same (column it.0 1) dial equal) it.3 })
+
+    -- where none is found no row has the text, and 0 stands for it
+    pub none_stands : FindsRow sql params old new None → StandsOrNone db tree dial 0
+    none_stands none =
+        inr (
+          none_keyed sql tree call_tests call_project names selects plain params old new db ours now 1 (Text dial) (λ r. refl) (equal_texts dial dial ∙ (bytes_eq-Decides dial dial).1 refl) none,
+          refl,
+        )
+
+    -- so does what is read in either case
+    pub read_stands : {A : Type 0} (of : A → ℕ) (row : Row) (result : Result A StoreFault) → IfOk result (λ a. HasNumber row 0 (of a)) → FindsRow sql params old new (Some row) → IfOk result (λ a. StandsOrNone db tree dial (of a))
+    read_stands of row result has found = IfOk-weaker result _ _ (λ a has. one_stands row (of a) found has) has
+
+  -- the counts of calls stand so
+  module _ (old new : State) (db : Database) (ours : db.schema ≡ our_tables) (now : old.now ≡ db) where
+    pub calls_stand : {A : Type 0} (of : A → ℕ) (row : Row) (result : Result A StoreFault) → IfOk result (λ a. HasNumber row 0 (of a)) → FindsRow SELECT_OPEN.now params old new (Some row) → IfOk result (λ a. CallsStand db dial (of a))
+    calls_stand = read_stands calls_tree SELECT_OPEN.now _ select_open (λ trees. refl) old new db ours now
+
+    pub no_calls_stand : FindsRow SELECT_OPEN.now params old new None → CallsStand db dial 0
+    no_calls_stand = none_stands calls_tree SELECT_OPEN.now _ select_open (λ trees. refl) old new db ours now
 
 -- ---- writing
 

@@ -1,5 +1,5 @@
 -- The jobs that wait, read a page at a time.
-use Rattle.std.proofs.Common.{◌≡◌, Ok, Err, IsErrAnd, ◌<◌, ◌≤◌, ◌+◌, ◌-◌, ◌⊎◌, inl, inr, ℕ, List, [], ◌∷◌, ◌++◌, map, filter, take, drop, length, All, Bool, true, false, cond, not, ◌&&◌, ◌||◌, leb, refl, sym, ap, ap₂, subst, ◌∙◌, arith, append_assoc, append-nil, take-append-drop, get_or, Ordering, Less, Equal, Greater, is_lt, is_gt, is_eq, true≢false, ◌==◌, nat_lt, Result, Vec, Option, Some, None, find, slice_get, IsPermutation, IsSorted, IsSortedBy}
+use Rattle.std.proofs.Common.{◌≡◌, Ok, Err, IsErrAnd, ◌<◌, ◌≤◌, ◌+◌, ◌-◌, ◌⊎◌, inl, inr, ℕ, List, [], ◌∷◌, ◌++◌, map, filter, take, drop, length, All, Bool, true, false, cond, not, ◌&&◌, ◌||◌, leb, refl, sym, ap, ap₂, subst, ◌∙◌, arith, append_assoc, append-nil, take-append-drop, get_or, Ordering, is_lt, is_eq, true≢false, ◌==◌, nat_lt, Result, Vec, Option, Some, None, find, slice_get, IsPermutation, IsSorted, IsSortedBy}
 use Rattle.fax_tables.proofs.ResultLemmas.{answered}
 use Rattle.fax_tables.specs.declared.fault.StoreFault.{StoreFault}
 use Rattle.fax_tables.specs.declared.fault.StoreFault.TheVariants.{Unavailable}
@@ -30,7 +30,7 @@ use Rattle.sqlite.specs.State.{State, Shown}
 use Rattle.sqlite.specs.Tree.{IsTable}
 use Rattle.sqlite.specs.declared.types.Value.TheVariants.{Null, Text}
 use Rattle.sqlite.proofs.Callers.{reads_as}
-use Rattle.sqlite_keyed.specs.Lists.{insert_sorted, sort_by}
+use Rattle.sqlite_keyed.specs.Lists.{sort_by}
 use Rattle.sqlite_keyed.proofs.SortLemmas.{sorted_is-sort_by, sorted_unique, IsPermutation-sort_by}
 use Rattle.sqlite.specs.Collation.TheVariants.{Binary}
 use Rattle.sqlite_sql.specs.Ops.{binary, unary, is_true, from_truth}
@@ -40,7 +40,7 @@ use Rattle.sqlite_sql.specs.Term.{Term}
 use Rattle.sqlite_value.specs.Order.{value_cmp}
 use Rattle.sqlite_value.proofs.OrderLemmas.{value_cmp-Text}
 use Rattle.sqlite_trees.specs.Tree.{IsAscending}
-use Rattle.sqlite_trees.proofs.ListLemmas.{all-permutation, all_of, all_both, all_weaker, ascending-filter, ascending-get_or, ascending_weaker, filter_all, filter_none, filter_same, filter-filter, IsPermutation-filter, map-map, pull_back}
+use Rattle.sqlite_trees.proofs.ListLemmas.{all_of, all_both, all_weaker, ascending-filter, ascending-get_or, ascending_weaker, filter_all, filter_none, filter_same, filter-filter, IsPermutation-filter, map-map, pull_back}
 use Rattle.fax_core.specs.Job.{Job, fields_of}
 use Rattle.fax_core.specs.Best.{better}
 use Rattle.fax_core.specs.Ledger.{Ledger}
@@ -48,7 +48,7 @@ use Rattle.fax_core.specs.Queue.{Queue, job_numbered}
 use Rattle.fax_core.specs.State.{is_due}
 use Rattle.fax_core.proofs.RecordLemmas.{within_limits_of}
 use Rattle.fax_value.specs.Limits.{last_job}
-use Rattle.fax_store.specs.Candidates.{Advances, AreAsked, IsPage, Reaches, StandsAt, front_of, is_behind, is_beyond, is_last, is_near, is_other, next_front, value_of}
+use Rattle.fax_store.specs.Candidates.{Advances, AreAsked, IsPage, Reaches, StandsAt, front_of, is_behind, is_beyond, is_last, is_near, is_other, longest_page, next_front, value_of}
 use Rattle.fax_store.specs.declared.candidates.Asked.{Asked}
 use Rattle.fax_store.specs.Job.{AreWaiting}
 use Rattle.fax_store.specs.declared.candidates.Front.{Front}
@@ -63,6 +63,7 @@ use Rattle.fax_tables.proofs.TablesLemmas.{row_of}
 use Rattle.fax_store.proofs.JobsLemmas.{ascend, Below}
 use Rattle.fax_schema.proofs.StatementTexts.{SelectsPage, page_query, prospect_project}
 use Rattle.fax_store.proofs.JobsLemmas as waiting
+use Rattle.fax_store.proofs.RisingLemmas.{Comes, HasNoTies, rises_sorted}
 
 -- ---- the order of the choice
 
@@ -80,34 +81,6 @@ by_less a b = grind (arith, nat_tests)
 -- each goes before every later one
 abbrev Goes : Job → Job → Type 0
 Goes a b = better a b ≡ true
-
-abbrev Comes : Job → Job → Type 0
-Comes a b = order a b ≡ Less
-
-abbrev HasNoTies : List Job → Type 0
-HasNoTies = IsAscending (λ (a b : Job). is_eq (order a b) ≡ false)
-
--- what holds of a job and of each in a list holds of each once it is put into the list
-all_inserted : (P : Job → Type 0) (new : Job) (xs : List Job) → P new → AllByRecursion P xs → AllByRecursion P (insert_sorted order new xs)
-all_inserted P new [] h all = (h, tt)
-all_inserted P new (x ∷ xs) h all =
-    elim (is_gt (order new x)) as (λ b. AllByRecursion P (cond b (x ∷ insert_sorted order new xs) (new ∷ x ∷ xs))) [ true ↦ (all.0, all_inserted P new xs h all.1) | false ↦ (h, all) ]
-
--- a job that ties with none, put into a list that rises, leaves it rising
-rises_inserted : (new : Job) (xs : List Job) → AllByRecursion (λ y. is_eq (order new y) ≡ false) xs → IsAscending Comes xs → IsAscending Comes (insert_sorted order new xs)
-rises_inserted new [] free up = (tt, tt)
-rises_inserted new (x ∷ xs) free up = go (order new x) refl (rises_inserted new xs free.1 up.1)
-  where
-    go : (o : Ordering) → order new x ≡ o → IsAscending Comes (insert_sorted order new xs) → IsAscending Comes (cond (is_gt o) (x ∷ insert_sorted order new xs) (new ∷ x ∷ xs))
-    go Less e more = ((e, all_weaker _ (Comes new) (λ y. is_total.trans new x y e) xs up.0), up)
-    go Equal e more = absurd (true≢false (sym (ap is_eq e) ∙ free.0))
-    go Greater e more = (all_inserted (Comes x) new xs (is_total.antisymm x new ∙ ap ordering_reverse e) up.0, more)
-
--- a list with no ties rises once it is sorted
-rises_sorted : (xs : List Job) → HasNoTies xs → IsAscending Comes (sort_by order xs)
-rises_sorted [] free = tt
-rises_sorted (x ∷ xs) free = rises_inserted x _ (all-permutation _ xs (sort_by order xs)
-    (IsPermutation-sym (sort_by order xs) xs (IsPermutation-sort_by order is_total xs)) free.0) (rises_sorted xs free.1)
 
 -- ---- all jobs that wait
 
@@ -127,7 +100,7 @@ module _ (db : Database) (m : Queue) (k : Ledger) (means : TablesMean db m k) (t
   rises = ascend m.jobs (subst IsTable means.jobs means.ordered.jobs.rise)
 
   -- no two of the jobs that are due tie
-  no_ties : HasNoTies all_due
+  no_ties : HasNoTies order is_total all_due
   no_ties = ascending_weaker Below (λ (a b : Job). is_eq (order a b) ≡ false) (λ a b low. grind (arith, nat_tests)) all_due
       (ascending-filter Below (λ (j : Job). is_due j t) m.jobs rises)
 
@@ -136,8 +109,8 @@ module _ (db : Database) (m : Queue) (k : Ledger) (means : TablesMean db m k) (t
   all_wait = sort_by order all_due
 
   -- the jobs that wait come each before every later one
-  come : IsAscending Comes all_wait
-  come = rises_sorted all_due no_ties
+  come : IsAscending (Comes order is_total) all_wait
+  come = rises_sorted order is_total all_due no_ties
 
   -- the jobs that are due, sorted, are those that wait
   pub they_wait : AreWaiting t m all_wait
@@ -145,7 +118,7 @@ module _ (db : Database) (m : Queue) (k : Ledger) (means : TablesMean db m k) (t
     due = IsPermutation-sym all_wait all_due (IsPermutation-sort_by order is_total all_due);
     ordered = λ i d from low. let a = get_or all_wait i d in
         let b = get_or all_wait (i + 1) d in
-        let before = ascending-get_or Comes all_wait i (i + 1) d come (omega arith) (omega (arith, low)) in
+        let before = ascending-get_or (Comes order is_total) all_wait i (i + 1) d come (omega arith) (omega (arith, low)) in
         sym (by_less b a) ∙ ap is_lt (is_total.antisymm b a ∙ ap ordering_reverse before);
   }
 
@@ -156,7 +129,7 @@ module _ (db : Database) (m : Queue) (k : Ledger) (means : TablesMean db m k) (t
       let due = IsPermutation-filter near all_wait all_due (IsPermutation-sort_by order is_total all_due) in
       let perm : IsPermutation (filter near all_wait) jobs =
       IsPermutation-trans (filter near all_wait) (filter near all_due) jobs due (subst (λ xs. IsPermutation xs jobs) (sym (filter_two (λ (j : Job). is_due j t) near m.jobs)) same) in
-      sorted_unique order is_total (filter near all_wait) jobs (ascending-filter Comes near all_wait come) perm sorted
+      sorted_unique order is_total (filter near all_wait) jobs (ascending-filter (Comes order is_total) near all_wait come) perm sorted
 
 -- ---- all that are asked for
 
@@ -343,14 +316,15 @@ shown j = prospect_shown (fields_of j)
 
 module _ (db : Database) (m : Queue) (k : Ledger) (means : TablesMean db m k) (asked : Asked) where
   -- nothing was read
-  pub stands_first : (most : ℕ) → 0 < most → StandsAt asked m [] [] First most
-  stands_first most some = record {
+  pub stands_first : (most : ℕ) → 0 < most → most ≤ longest_page → StandsAt asked m [] [] First most
+  stands_first most some bounded = record {
     all = all_asked db m k means asked;
     waiting = they_are_asked db m k means asked;
     read = [];
     parts = sym (filter_all (is_behind First) (all_asked db m k means asked) (all_of (λ (j : Job). is_behind First j ≡ true) (λ j. refl) (all_asked db m k means asked)));
     shown = refl;
     some = some;
+    bounded = bounded;
   }
 
   module _ (given : List Job) (f : Front) (most : ℕ) (h : StandsAt asked m given [] f most) (rows : List Row) (next : IsPage asked m f most rows) where
@@ -362,7 +336,7 @@ module _ (db : Database) (m : Queue) (k : Ledger) (means : TablesMean db m k) (a
     up : IsAscending Goes h.all
     up = subst (IsAscending Goes) (sym (one_asked db m k means asked h.all h.waiting))
         (ascending-filter Goes (is_other asked.but) (all_wait db m k means asked.t)
-        (ascending_weaker Comes Goes (λ a b e. sym (by_less a b) ∙ ap is_lt e) _ (come db m k means asked.t)))
+        (ascending_weaker (Comes order is_total) Goes (λ a b e. sym (by_less a b) ∙ ap is_lt e) _ (come db m k means asked.t)))
 
     -- they are those given and those behind the front
     left : h.all ≡ given ++ filter (is_behind f) h.all
@@ -373,8 +347,9 @@ module _ (db : Database) (m : Queue) (k : Ledger) (means : TablesMean db m k) (a
     paged = take most (filter (is_near f) next.all)
 
     -- it ends with a job
-    pub stands_page : (ys : List Job) (x : Job) → paged ≡ ys ++ x ∷ [] → (then : ℕ) → 0 < then → StandsAt asked m given rows (front_of (prospect (fields_of x))) then
-    stands_page ys x is then some =
+    pub stands_page : (ys : List Job) (x : Job) → paged ≡ ys ++ x ∷ [] → (then : ℕ) → 0 < then → then ≤ longest_page
+        → StandsAt asked m given rows (front_of (prospect (fields_of x))) then
+    stands_page ys x is then some bounded =
         let near = filter (is_near f) h.all in
         let front : take most near ≡ ys ++ x ∷ [] = ap (λ (all : List Job). take most (filter (is_near f) all)) (sym all_is) ∙ is in
         let rest = drop most near ++ filter (is_beyond f) h.all in
@@ -388,6 +363,7 @@ module _ (db : Database) (m : Queue) (k : Ledger) (means : TablesMean db m k) (a
           parts = left ∙ ap (λ (xs : List Job). given ++ xs) (whole ∙ ap (λ (xs : List Job). (ys ++ x ∷ []) ++ xs) (sym (rest_behind f h.all ys x rest up whole)));
           shown = next.is ∙ ap (map shown) is;
           some = some;
+          bounded = bounded;
         }
 
     -- where the page is empty, no job is near the front
@@ -397,8 +373,8 @@ module _ (db : Database) (m : Queue) (k : Ledger) (means : TablesMean db m k) (a
         nil_from_length (filter (is_near f) h.all) (omega (arith, h.some, length-take most (filter (is_near f) h.all), ap length empty))
 
     -- it has no job
-    pub stands_on : rows ≡ [] → (then : ℕ) → 0 < then → StandsAt asked m given rows (next_front f) then
-    stands_on none then some = by (is_last f) refl
+    pub stands_on : rows ≡ [] → (then : ℕ) → 0 < then → then ≤ longest_page → StandsAt asked m given rows (next_front f) then
+    stands_on none then some bounded = by (is_last f) refl
       where
         same : (g : Front) → filter (is_behind f) h.all ≡ filter (is_behind g) h.all → StandsAt asked m given rows g then
         same g e = record {
@@ -408,6 +384,7 @@ module _ (db : Database) (m : Queue) (k : Ledger) (means : TablesMean db m k) (a
           parts = left ∙ ap (λ (xs : List Job). given ++ xs) e;
           shown = none;
           some = some;
+          bounded = bounded;
         }
 
         stays : (g : Front) → is_last g ≡ true → next_front g ≡ g
@@ -486,7 +463,7 @@ one_given asked m given row page f most h = by h.read h.parts h.shown
     by (j ∷ read) parts is = (
       j,
       (let e = is in cc),
-      record { all = h.all; waiting = h.waiting; read = read; parts = parts ∙ sym (append_assoc given (j ∷ []) (read ++ filter (is_behind f) h.all)); shown = (let e = is in cc); some = h.some },
+      record { all = h.all; waiting = h.waiting; read = read; parts = parts ∙ sym (append_assoc given (j ∷ []) (read ++ filter (is_behind f) h.all)); shown = (let e = is in cc); some = h.some; bounded = h.bounded },
     )
 
 -- ---- a job that is given

@@ -1,11 +1,14 @@
 -- What the texts on floors, and on the replies that a client gives up, leave; and such replies, some at a time.
-use Rattle.std.proofs.Common.{◌≡◌, ◌≤◌, ◌<◌, ◌^◌, ℕ, List, [], ◌∷◌, map, filter, drop, false, not, ◌&&◌, Option, MatchOption, refl, sym, ap, ap₂, subst, ◌∙◌, arith, Bool, true, Ok, Err, Result, is_err, bytes_eq, IfErr, IsErrAnd, nat_le}
-use Rattle.sqlite_trees.proofs.ListLemmas.{filter-filter}
+use Rattle.std.proofs.Common.{◌≡◌, ◌≤◌, ◌<◌, ◌^◌, ◌+◌, ℕ, List, [], ◌∷◌, map, filter, drop, length, inl, inr, nat_lt, false, not, ◌&&◌, Option, MatchOption, refl, sym, ap, ap₂, subst, ◌∙◌, arith, Bool, true, Ok, Err, Result, bytes_eq, IfOk, IsErrAnd, Some, None, nat_le}
+use Rattle.std.specs.List.{AllByRecursion}
+use Rattle.std.proofs.lemmas.List.Elements.{filter_passes, recursion_from_All}
+use Rattle.sqlite_trees.proofs.ListLemmas.{all_of, all_weaker, filter-filter, filter_none}
 use Rattle.std.proofs.Math.Bool.{and-true}
-use Rattle.std.proofs.lemmas.Bool.{cond_both}
+use Rattle.std.proofs.lemmas.Bool.{cases_Bool, cond_both}
 use Rattle.std.proofs.lemmas.Slice.Eq.{bytes_eq-Decides}
 use Rattle.sqlite.specs.Cast.{cast_row}
 use Rattle.sqlite.specs.Edit.{with_rowid, next_rowid}
+use Rattle.sqlite.specs.Effect.{Database}
 use Rattle.sqlite.specs.Order.{Row}
 use Rattle.sqlite.specs.Rowids.TheVariants.{Chosen}
 use Rattle.sqlite.specs.State.{State}
@@ -26,18 +29,18 @@ use Rattle.fax_schema.proofs.GrantTexts.{call_terms, call_tests}
 use Rattle.fax_schema.proofs.SelectLemmas.{passes}
 use Rattle.fax_schema.proofs.UpdateLemmas.{gone_project, deleted}
 use Rattle.fax_schema.proofs.WriteLemmas.{KeepsOthers, unreferred, inserts}
-use Rattle.fax_tables.specs.Row.{number, entry_columns, floor_columns}
+use Rattle.fax_tables.specs.Row.{HasNumber, number, entry_columns, floor_columns}
 use Rattle.fax_tables.specs.Tables.{AreCounted, AreLawfulFloors, TablesMean}
 use Rattle.fax_tables.proofs.TablesLemmas.{AreColumns, AreFloors, by_rowid_put, calls_of, floors_changed, means_of, parts_of, replies_changed}
-use Rattle.fax_store.specs.Store.{FindsRow, HasRun}
-use Rattle.fax_store.proofs.CallLemmas.{beside, counted_found, is_asked, left_without, params}
+use Rattle.fax_store.specs.Store.{FindsRow, HasRun, Serves}
+use Rattle.fax_store.proofs.CallLemmas.{beside, counted_found, is_asked, left_without, none_stands, params, read_stands}
 use Rattle.std.proofs.lemmas.Bool.Decides.{nat_tests}
 use Rattle.sqlite_trees.specs.declared.store.Store.{Ghosts}
-use Rattle.fax_store.specs.Calls.{Finds, Writes, shown}
-use Rattle.fax_store.specs.Floors.{Thins}
-use Rattle.fax_store.specs.Work.{IsUnderWay, Steps}
+use Rattle.fax_store.specs.Calls.{Answers, Finds, Runs, Writes, shown}
+use Rattle.fax_store.specs.Floors.{AreHundredLess, FloorStands, IsHundredth, TakesFew, TakesHundred, Thins, through}
+use Rattle.fax_store.specs.Work.{IsUnderWay, Steps, Works}
 use Rattle.fax_store.specs.declared.store.Store.{Store}
-use Rattle.fax_store.proofs.FrameLemmas.{runs_err, runs_of, runs_then}
+use Rattle.fax_store.proofs.FrameLemmas.{reads_on, runs_err, runs_of, runs_then}
 use Rattle.fax_store.proofs.WorkLemmas.{keeps_by}
 use Rattle.fax_tables.specs.declared.fault.StoreFault.{StoreFault}
 use Rattle.fax_tables.specs.declared.fault.StoreFault.TheVariants.{Unavailable}
@@ -48,6 +51,16 @@ pub floor_found : (client : List ℕ) (old new : State) (m : Queue) (k : Ledger)
     → MatchOption found (k.floor client ≡ 0) (λ row. row ≡ number (k.floor client) ∷ [])
 floor_found client old new m k means = counted_found client floors_tree SELECT_FLOOR.now _ select_floor (λ trees. refl) old new k.floor means.schema
     means.floors
+
+-- whatever the rows say
+module _ (client : List ℕ) (old new : State) (db : Database) (ours : db.schema ≡ our_tables) (now : old.now ≡ db) where
+  -- the floor that is read of the row that is found stands in a row of the client
+  pub floor_stands : (row : Row) (result : Result ℕ StoreFault) → IfOk result (HasNumber row 0) → FindsRow SELECT_FLOOR.now (params client) old new (Some row) → IfOk result (FloorStands db client)
+  floor_stands = read_stands client floors_tree SELECT_FLOOR.now _ select_floor (λ trees. refl) old new db ours now (λ n. n)
+
+  -- where none is found the client has none
+  pub no_floor_stands : FindsRow SELECT_FLOOR.now (params client) old new None → FloorStands db client 0
+  no_floor_stands = none_stands client floors_tree SELECT_FLOOR.now _ select_floor (λ trees. refl) old new db ours now
 
 -- a floor is below one above the greatest number
 pub floor_low : (client : List ℕ) (floor : List ℕ → ℕ) → AreLawfulFloors floor → floor client < 10 ^ 18
@@ -62,7 +75,7 @@ module _ (client : List ℕ) (floor : ℕ) where
   given_params = Text client ∷ number floor ∷ []
 
   -- the rows that pass are those of the client, with numbers through the floor
-  is_given : (r : Row) (e : Entry) → drop 1 r ≡ entry_columns e → passes replies_tree given_up_tests gone_project given_params r ≡ is_through client floor e
+  pub is_given : (r : Row) (e : Entry) → drop 1 r ≡ entry_columns e → passes replies_tree given_up_tests gone_project given_params r ≡ is_through client floor e
   is_given [] e is = absurd cc
   is_given (i ∷ columns) e is =
       ap (λ rest. passes replies_tree given_up_tests gone_project given_params (i ∷ rest)) is
@@ -144,60 +157,164 @@ without_lower client low high k under =
     ap (λ (es : List Entry). record k { replies = es })
     (filter-filter (λ e. not (is_through client high e)) (λ e. not (is_through client low e)) (λ e. kept_lower (bytes_eq e.client client) e.number low high under) k.replies)
 
+-- ---- a hundred at a time
+
+-- the entry isn't of this client, or has no number below this one
+abbrev NotBelow : List ℕ → ℕ → Entry → Type 0
+NotBelow client n e = bytes_eq e.client client ≡ true → n ≤ e.number
+
+-- none of the client's replies has a number below this one
+abbrev pub NoneBelow : List ℕ → ℕ → Ledger → Type 0
+NoneBelow client n k = AllByRecursion (NotBelow client n) k.replies
+
+-- a number above another isn't through it
+pub above : (b : Bool) (n m : ℕ) → m < n → (b && nat_le n m) ≡ false
+above false n m over = refl
+above true n m over = grind (arith, nat_tests, over)
+
+module _ (client : List ℕ) where
+  -- a lower number goes through no entry
+  not_through : (low n : ℕ) (e : Entry) → low < n → NotBelow client n e → is_through client low e ≡ false
+  not_through low n e under none = elim (cases_Bool (bytes_eq e.client client)) [
+    | inl on ↦ above (bytes_eq e.client client) e.number low (omega (arith, none on, under))
+    | inr off ↦ rw off refl
+  ]
+
+  -- so none is through it
+  none_through : (low n : ℕ) (k : Ledger) → low < n → NoneBelow client n k → through client low k ≡ 0
+  none_through low n k under none =
+      ap length (filter_none (is_through client low) k.replies (all_weaker (NotBelow client n) (λ e. is_through client low e ≡ false) (λ e. not_through low n e under) k.replies none))
+
+  -- and where a hundred are through a number, it is no lower one
+  no_lower : (n last : ℕ) (k : Ledger) → NoneBelow client n k → through client last k ≡ 100 → n ≤ last
+  no_lower n last k none hundred = elim (cases_Bool (nat_lt last n)) [
+    | inl under ↦ (let low : last < n = grind (arith, nat_tests, under) in let gone = none_through last n k low none in absurd (omega (arith, gone, hundred)))
+    | inr up ↦ grind (arith, nat_tests, up)
+  ]
+
+  -- an entry that isn't through a number is above it
+  past : (last n : ℕ) (e : Entry) → n ≤ last → not (is_through client last e) ≡ true → NotBelow client (n + 1) e
+  past last n e under kept on =
+      let off : not (nat_le e.number last) ≡ true = rw on at kept in
+      grind (arith, nat_tests, off, under)
+
+  -- so once a hundred more are gone, none that is left has the next number or a lower one
+  pub none_next : (floor n : ℕ) (k left : Ledger) → NoneBelow client n k → AreHundredLess client floor k left → NoneBelow client (n + 1) left
+  none_next floor n k left none less =
+      let under = no_lower n less.last k none less.hundred in
+      let kept = λ (e : Entry). not (is_through client less.last e) in
+      rw less.is (all_weaker (λ e. kept e ≡ true) (NotBelow client (n + 1)) (λ e. past less.last n e under) (filter kept k.replies)
+      (recursion_from_All (λ e. kept e ≡ true) (filter kept k.replies) (filter_passes kept k.replies)))
+
 -- ---- calls
 
-module _ {S : Type 0} (g : Ghosts S) {client : List ℕ} {floor : ℕ} where
-  -- nothing is done
-  pub thins_not : {s : Store S} {A : Type 0} (a : A) → Thins g client floor s s (Ok a)
-  thins_not a = record {
-    leaves = record { served = λ serves. serves; clean = λ clean. clean; holds = λ db over serves. over serves; crash = λ active. (active, λ found may. may) };
-    written = λ m₀ m k₀ k works serves. (k, refl, works serves);
-  }
+module _ {S : Type 0} (g : Ghosts S) (client : List ℕ) (floor : ℕ) where
+  -- what a statement takes away it takes away where they are few, too
+  pub few_of : {old new : Store S} {A : Type 0} {result : Result A StoreFault} → Writes g old new result (λ m. m) (without_replies client floor) → TakesFew g client floor old new result
+  few_of writes = record { leaves = writes.leaves; written = λ m₀ m k₀ k few. writes.written m₀ m k₀ k; cause = writes.cause }
 
-  -- a reading takes none away
-  pub thins_none : {old new : Store S} {A : Type 0} (result : Result A StoreFault) → Finds g old new result → IfErr result (λ fault. fault ≡ Unavailable)
-      → Thins g client floor old new result
-  thins_none {old} {new} result finds cause = record {
-    leaves = runs_of g finds;
-    written = λ m₀ m k₀ k works s. let after = keeps_by (shown g old) (shown g new) finds.served result finds.reads m₀ m k₀ k works s in
-        (k, refl, kept m₀ m k₀ k result cause after);
-  }
-    where
-      kept : (m₀ m : Queue) (k₀ k : Ledger) {A : Type 0} (r : Result A StoreFault) → IfErr r (λ fault. fault ≡ Unavailable)
-          → IsUnderWay (shown g new) (is_err r) m₀ k₀ m k → Steps (shown g new) r m₀ k₀ m k
-      kept m₀ m k₀ k (Ok a) cause after = after
-      kept m₀ m k₀ k (Err e) cause after = (cause, after.began)
-
-  -- those through a lower number are some of them
-  pub thins_lower : {old new : Store S} {A : Type 0} {result : Result A StoreFault} (last : ℕ) → last ≤ floor
-      → Writes g old new result (λ m. m) (without_replies client last) → Thins g client floor old new result
-  thins_lower last under writes = record {
-    leaves = writes.leaves;
-    written = λ m₀ m k₀ k works s. (without_replies client last k, without_lower client last floor k under, writes.written m₀ m k₀ k works s);
-  }
-
-  -- so does what comes behind it
-  pub thins_then : {old mid new : Store S} {A B : Type 0} {a : A} {result : Result B StoreFault} → Thins g client floor old mid (Ok a)
-      → Thins g client floor mid new result → Thins g client floor old new result
-  thins_then first next = record {
-    leaves = runs_then g first.leaves next.leaves;
+  -- a reading that is refused takes none away
+  pub hundred_refused : {old new : Store S} {A : Type 0} {fault : StoreFault} (result : Result Bool StoreFault) → IsErrAnd result (λ f. f ≡ fault)
+      → Finds g {A = A} old new (Err fault) → fault ≡ Unavailable → TakesHundred g client floor old new result
+  hundred_refused (Ok b) told finds why = absurd told
+  hundred_refused {old} {new} {A} {fault} (Err e) told finds why = record {
+    leaves = runs_err g (Err e) told (runs_of g finds);
     written = λ m₀ m k₀ k works s.
-        let one = first.written m₀ m k₀ k works (next.leaves.served s) in
-        let two = next.written m₀ m k₀ one.0 (λ _. one.2) s in
-        (two.0, two.1 ∙ one.1, two.2);
+        let after = keeps_by (shown g old) (shown g new) finds.served {A = A} (Err fault) finds.reads m₀ m k₀ k works s in
+        (k, (told ∙ why, after.began), tt);
   }
 
-  -- an answer may say something else, and a refusal is handed on
-  pub thins_ok : {old new : Store S} {A B : Type 0} {a : A} (b : B) → Thins g client floor old new (Ok a) → Thins g client floor old new (Ok b)
-  thins_ok b thins = record {
-    leaves = record { served = thins.leaves.served; clean = thins.leaves.clean; holds = thins.leaves.holds; crash = thins.leaves.crash };
-    written = thins.written;
+  module _ {old mid : Store S} {x : Option ℕ} (finds : Finds g old mid (Ok x)) (says : Answers g old mid (Ok x) (λ m. IsHundredth client floor)) where
+    -- what is read of the tables, which stay
+    read : (m₀ m : Queue) (k₀ k : Ledger) → Works (shown g old) false m₀ k₀ m k → Serves (shown g mid) → IsHundredth client floor k x × IsUnderWay (shown g mid) false m₀ k₀ m k
+    read = reads_on g {P = λ m k. IsHundredth client floor k x} finds says
+
+    -- nor does one that finds fewer
+    pub hundred_none : x ≡ None → TakesHundred g client floor old mid (Ok false)
+    hundred_none is = record {
+      leaves = let runs = runs_of g finds in record { served = runs.served; clean = runs.clean; holds = runs.holds; crash = runs.crash };
+      written = λ m₀ m k₀ k works s. let it = read m₀ m k₀ k works s in
+          (k, it.1, (refl, subst (IsHundredth client floor k) is it.0));
+    }
+
+    module _ {new : Store S} (last : ℕ) (is : x ≡ Some last) (within : last ≤ floor) where
+      -- a hundred go where there are so many
+      taken : {A : Type 0} {step : Result A StoreFault} → TakesFew g client last mid new step → (m₀ m : Queue) (k₀ k : Ledger) → Works (shown g old) false m₀ k₀ m k → Serves (shown g new)
+          → (through client last k ≡ 100) × Steps (shown g new) step m₀ k₀ m (without_replies client last k)
+      taken takes m₀ m k₀ k works s =
+          let it = read m₀ m k₀ k works (takes.leaves.served s) in
+          let hundred : through client last k ≡ 100 = subst (IsHundredth client floor k) is it.0 in
+          (hundred, takes.written m₀ m k₀ k (omega (arith, hundred)) (λ _. it.1) s)
+
+      pub hundred_taken : {A : Type 0} {a : A} → TakesFew g client last mid new (Ok a) → TakesHundred g client floor old new (Ok true)
+      hundred_taken takes = record {
+        leaves = let runs = runs_then g (runs_of g finds) takes.leaves in record { served = runs.served; clean = runs.clean; holds = runs.holds; crash = runs.crash };
+        written = λ m₀ m k₀ k works s. let it = taken takes m₀ m k₀ k works s in
+            (without_replies client last k, it.1, record { last = last; within = within; hundred = it.0; is = refl });
+      }
+
+      pub hundred_failed : {A : Type 0} {e : StoreFault} (result : Result Bool StoreFault) → IsErrAnd result (λ f. f ≡ e)
+          → TakesFew g client last {A = A} mid new (Err e) → TakesHundred g client floor old new result
+      hundred_failed (Ok b) told takes = absurd told
+      hundred_failed (Err f) told takes = record {
+        leaves = runs_err g (Err f) told (runs_then g (runs_of g finds) takes.leaves);
+        written = λ m₀ m k₀ k works s. let it = taken takes m₀ m k₀ k works s in
+            (without_replies client last k, (told ∙ it.1.0, it.1.1), tt);
+      }
+
+  -- Some are gone by now, and none that is left has a number below this one.
+  pub record Goes (old new : Store S) (n : ℕ) : Type 0 where
+    pub leaves : Runs g old new (Ok (tt {0}))
+    pub written : (m₀ m : Queue) (k₀ k : Ledger) → Works (shown g old) false m₀ k₀ m k → Serves (shown g new)
+        → (left : Ledger) × (without_replies client floor left ≡ without_replies client floor k) × IsUnderWay (shown g new) false m₀ k₀ m left × NoneBelow client n left
+
+  -- none is at first
+  pub goes_first : (s : Store S) → Goes s s 0
+  goes_first s = record {
+    leaves = record { served = λ serves. serves; clean = λ clean. clean; holds = λ db over serves. over serves; crash = λ active. (active, λ found may. may) };
+    written = λ m₀ m k₀ k works serves. (k, refl, works serves, all_of (NotBelow client 0) (λ e on. omega arith) k.replies);
   }
 
-  pub thins_err : {old new : Store S} {A B : Type 0} {e : StoreFault} (result : Result B StoreFault) → IsErrAnd result (λ f. f ≡ e)
-      → Thins g client floor {A = A} old new (Err e) → Thins g client floor old new result
-  thins_err (Ok b) is thins = absurd is
-  thins_err (Err f) is thins = record {
-    leaves = runs_err g (Err f) is thins.leaves;
-    written = λ m₀ m k₀ k works s. let h = thins.written m₀ m k₀ k works s in (h.0, h.1, (is ∙ h.2.0, h.2.1));
+  module _ {old mid new : Store S} {n : ℕ} (goes : Goes old mid n) where
+    -- a hundred more
+    pub goes_on_by : TakesHundred g client floor mid new (Ok true) → Goes old new (n + 1)
+    goes_on_by takes = record {
+      leaves = let runs = runs_then g goes.leaves takes.leaves in record { served = runs.served; clean = runs.clean; holds = runs.holds; crash = runs.crash };
+      written = λ m₀ m k₀ k works s.
+          let one = goes.written m₀ m k₀ k works (takes.leaves.served s) in
+          let two = takes.written m₀ m k₀ one.0 (λ _. one.2) s in
+          let less = two.2 in
+          let same : without_replies client floor two.0 ≡ without_replies client floor one.0 = ap (without_replies client floor) less.is ∙ without_lower client less.last floor one.0 less.within in
+          (two.0, same ∙ one.1, two.1, none_next client floor n one.0 two.0 one.3 less);
+    }
+
+    -- or fewer than a hundred are left
+    pub thins_few : TakesHundred g client floor mid new (Ok false) → Thins g client floor old new (Ok (tt {0}))
+    thins_few takes = record {
+      leaves = let runs = runs_then g goes.leaves takes.leaves in record { served = runs.served; clean = runs.clean; holds = runs.holds; crash = runs.crash };
+      written = λ m₀ m k₀ k works s.
+          let one = goes.written m₀ m k₀ k works (takes.leaves.served s) in
+          let two = takes.written m₀ m k₀ one.0 (λ _. one.2) s in
+          let same : two.0 ≡ one.0 = two.2.0 in
+          (two.0, ap (without_replies client floor) same ∙ one.1, two.1, rw same two.2.1);
+    }
+
+    -- or a step is refused
+    pub thins_failed : {e : StoreFault} (result : Result (Unit {0}) StoreFault) → IsErrAnd result (λ f. f ≡ e) → TakesHundred g client floor mid new (Err e) → Thins g client floor old new result
+    thins_failed (Ok b) told takes = absurd told
+    thins_failed (Err f) told takes = record {
+      leaves = runs_err g (Err f) told (runs_then g goes.leaves takes.leaves);
+      written = λ m₀ m k₀ k works s.
+          let one = goes.written m₀ m k₀ k works (takes.leaves.served s) in
+          let two = takes.written m₀ m k₀ one.0 (λ _. one.2) s in
+          (one.0, one.1, (told ∙ two.1.0, two.1.1), tt);
+    }
+
+  -- none is left where none has a number through the floor
+  pub thins_all : {old new : Store S} (n : ℕ) → floor < n → Goes old new n → Thins g client floor old new (Ok (tt {0}))
+  thins_all n above goes = record {
+    leaves = goes.leaves;
+    written = λ m₀ m k₀ k works s.
+        let it = goes.written m₀ m k₀ k works s in
+        (it.0, it.1, it.2, (let none = none_through client floor n it.0 above it.3 in omega (arith, none)));
   }

@@ -1,20 +1,25 @@
 -- What a look-up tells of the rows, whatever they say: a row is found and read, or none is.
-use Rattle.std.proofs.Common.{◌≡◌, ℕ, List, [], ◌∷◌, map, filter, true, false, ◌&&◌, Some, None, length, suc, take, sym, ap, subst, ◌∙◌, Ok, Err, Option, Result, IfOk, IfSome, IsErrAnd, refl, drop, IsPermutation, option_map}
+use Rattle.std.proofs.Common.{◌≡◌, ℕ, List, [], ◌∷◌, map, filter, true, false, ◌&&◌, Some, None, length, suc, take, sym, ap, subst, ◌∙◌, Ok, Err, Option, Result, IfOk, IfSome, IsErrAnd, refl, drop, IsPermutation, option_map, is_eq, arith}
 use Rattle.std.proofs.lemmas.Bool.{and_parts, both_ways}
 use Rattle.sqlite.specs.Effect.{Database}
 use Rattle.sqlite.specs.Order.{Row, column}
 use Rattle.sqlite.specs.Program.{overlay}
 use Rattle.sqlite.specs.State.{State, Shown, HasCleanDisk}
 use Rattle.sqlite.specs.declared.types.Value.{Value}
+use Rattle.sqlite.specs.declared.types.Value.TheVariants.{Null, Text}
 use Rattle.sqlite.proofs.Callers.{reads_as}
 use Rattle.sqlite_rules.specs.Lists.{Has}
 use Rattle.sqlite_schema.specs.Rules.{agree}
 use Rattle.sqlite_value.specs.Keys.{first_key, plain}
 use Rattle.std.proofs.Math.Bool.{and-true}
+use Rattle.std.proofs.lemmas.Slice.Eq.{bytes_eq-Decides}
+use Rattle.sqlite_sql.specs.Ops.{binary}
+use Rattle.sqlite_sql.specs.declared.ops.CompareOp.TheVariants.{Eq}
+use Rattle.sqlite_value.proofs.OrderLemmas.{value_cmp-apart}
 use Rattle.sqlite_sql.specs.Term.{Term}
 use Rattle.sqlite_trees.specs.Tree.{Trees}
 use Rattle.fax_schema.specs.Schema.{our_tables}
-use Rattle.fax_schema.proofs.CompareLemmas.{are_equal, same_number}
+use Rattle.fax_schema.proofs.CompareLemmas.{are_equal, compared, equal_texts, same_number}
 use Rattle.fax_schema.proofs.EditLemmas.{none_shown, shown_one}
 use Rattle.fax_schema.proofs.SelectLemmas.{passes, show, answers}
 use Rattle.fax_schema.proofs.StatementForms.{Selects}
@@ -41,6 +46,19 @@ with_id (id ∷ rest) v columns is = ap (λ r. id ∷ r) is
 pub agree_at : (at : ℕ) (r s : Row) → agree plain (at ∷ []) r (at ∷ []) s ≡ are_equal (column r at) (column s at)
 unfolding first_key
 agree_at at r s = and-true (are_equal (column r at) (column s at))
+
+-- ---- what is equal to a text
+
+-- NULL isn't
+null_apart : (t : List ℕ) → are_equal Null (Text t) ≡ false
+unfolding binary
+null_apart t = refl
+
+-- nor is a value of another class, but only the text itself
+pub text_same : (v : Value) (t : List ℕ) → are_equal v (Text t) ≡ true → v ≡ Text t
+text_same Null t h = absurd (both_ways _ (null_apart t) h)
+text_same (Text s) t h = ap Text ((bytes_eq-Decides s t).0 (sym (equal_texts s t) ∙ h))
+text_same other t h = absurd (both_ways _ (compared Eq other (Text t) refl refl ∙ ap is_eq (value_cmp-apart other (Text t) (λ e. omega arith))) h)
 
 module _ (sql : List ℕ) (tree : ℕ) (tests project : List Term) (names : List (List ℕ)) (selects : Selects sql tree tests project names) (plain : (trees : Trees) → overlay trees [] tree ≡ trees tree)
     (params : Row) (old new : State) (db : Database) (ours : db.schema ≡ our_tables) (now : old.now ≡ db) where

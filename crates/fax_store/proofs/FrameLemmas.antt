@@ -13,7 +13,7 @@ use Rattle.fax_core.specs.Queue.{Queue}
 use Rattle.sqlite.proofs.InsideLemmas.{unchanged_keeps}
 use Rattle.sqlite.specs.Effect.{Database}
 use Rattle.fax_store.specs.Adopt.{Tests}
-use Rattle.fax_store.specs.Calls.{Answers, Calls, Edits, Finds, Follows, Inserts, Looks, Makes, MakesIf, MakesIfWhere, MakesWhere, Queries, Runs, Tells, TellsLawful, Writes, WritesIf, WritesIfWhere, WritesWhere, shown, within}
+use Rattle.fax_store.specs.Calls.{Answers, AnswersRows, Calls, Edits, Finds, Follows, Inserts, Looks, Makes, MakesIf, MakesIfWhere, MakesWhere, Queries, Runs, Tells, TellsLawful, TellsRows, TellsRowsLawful, Writes, WritesIf, WritesIfWhere, WritesWhere, shown, within}
 use Rattle.fax_store.specs.Work.{IsOnlyUnavailable, IsUnderWay, Moves, Steps, Works}
 use Rattle.fax_store.specs.Store.{CommitsNothing, FindsRow, HasRun, HasTables, Means, MeansNow, Reads, Serves, IsEditText, LeavesCommit}
 use Rattle.fax_store.specs.declared.store.Store.{Store}
@@ -268,6 +268,19 @@ module _ {S : Type 0} (g : Ghosts S) where
     tells_lawful_by {P} {Lawful} finds answers lawful =
         let tells = tells_by {P = P} finds answers in
         record { leaves = tells.leaves; keeps = tells.keeps; found = tells.found; lawful = lawful }
+
+    -- so is one that tells of the rows too
+    pub tells_rows_by : {P : Queue → Ledger → A → Type 0} {Q : Database → A → Type 0} → Finds g old.store.now next result → Answers g old.store.now next result P
+        → AnswersRows g old.store.now next result Q → TellsRows g old (after old next failed) result P Q
+    tells_rows_by {P} {Q} finds answers stands =
+        let tells = tells_by {P = P} finds answers in
+        record { leaves = tells.leaves; keeps = tells.keeps; found = tells.found; stands = stands }
+
+    pub tells_rows_lawful_by : {P : Queue → Ledger → A → Type 0} {Q : Database → A → Type 0} {Lawful : A → Type 0} → Finds g old.store.now next result
+        → Answers g old.store.now next result P → AnswersRows g old.store.now next result Q → IfOk result Lawful → TellsRowsLawful g old (after old next failed) result P Q Lawful
+    tells_rows_lawful_by {P} {Q} {Lawful} finds answers stands lawful =
+        let tells = tells_by {P = P} finds answers in
+        record { leaves = tells.leaves; keeps = tells.keeps; found = tells.found; stands = stands; lawful = lawful }
 
     -- and so is what the store makes within it
     module _ {f : Queue → Queue} {h : Ledger → Ledger} where

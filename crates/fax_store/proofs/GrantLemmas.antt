@@ -1,5 +1,5 @@
 -- What the texts on grants and holds read and write.
-use Rattle.std.proofs.Common.{◌≡◌, ℕ, [], ◌∷◌, Option, Some, None, drop, refl, ◌≤◌, inl, inr, pos, List, ◌++◌, map, filter, Bool, true, false, not, ◌&&◌, Err, if◌then◌else◌, IsTrue, cond, sym, ap, ap₂, subst, ◌∙◌, ◌+◌, ◌-◌, arith, option_map, ◌==◌, find, IsPermutation, bytes_eq, is_eq}
+use Rattle.std.proofs.Common.{◌≡◌, ℕ, [], ◌∷◌, Option, Some, None, drop, refl, ◌≤◌, inl, inr, pos, List, ◌++◌, map, filter, Bool, true, false, not, ◌&&◌, Err, if◌then◌else◌, IsTrue, cond, sym, ap, ap₂, subst, ◌∙◌, ◌+◌, ◌-◌, arith, option_map, ◌==◌, find, IsPermutation, bytes_eq}
 use Rattle.sqlite.specs.Effect.{Database, IsDatabase}
 use Rattle.sqlite.specs.Order.{Row, column}
 use Rattle.sqlite.specs.State.{State, Executes}
@@ -17,14 +17,14 @@ use Rattle.fax_store.specs.Calls.{shown}
 use Rattle.fax_store.specs.Store.{FindsRow, HasRun}
 use Rattle.fax_store.specs.declared.store.Store.{Store}
 use Rattle.fax_tables.specs.Tables.{IsLawfulGrant, TablesMean, HaveJobs}
-use Rattle.fax_schema.proofs.CompareLemmas.{number_same, are_equal, equal_texts, is_number, same_row, cast_int, cast_null, compared}
+use Rattle.fax_schema.proofs.CompareLemmas.{number_same, are_equal, equal_texts, is_number, same_row, cast_int, cast_null}
 use Rattle.fax_schema.proofs.GrantTexts.{grant_names, grant_tests, grant_project, select_grant, grant_terms, report_project, shut_project, held_tests, hold_terms, insert_grant, insert_hold, update_report, shut_grant, delete_hold, hold_tests, hold_project, select_hold}
-use Rattle.fax_store.proofs.FoundLemmas.{agree_at, none_keyed, one_numbered, Keys, key_of, one_passes, none_passes, row_passes, with_id}
+use Rattle.fax_store.proofs.FoundLemmas.{agree_at, none_keyed, one_numbered, Keys, key_of, one_passes, none_passes, row_passes, text_same, with_id}
 use Rattle.fax_tables.proofs.KeyLemmas.{found_holds, numbered_found, only_numbered, asked_is, not_asked, row_placed, all_placed, placed_permuted, free_of}
 use Rattle.fax_schema.proofs.SelectLemmas.{passes, show, answers}
 use Rattle.std.proofs.lemmas.Option.{same_Some}
 use Rattle.std.proofs.Math.Bool.{and-true}
-use Rattle.std.proofs.lemmas.Bool.{cases_Bool, eqb-true, eq-eqb, false_from_ne_true, cond_both, and_parts, both_ways, not-true}
+use Rattle.std.proofs.lemmas.Bool.{cases_Bool, eqb-true, eq-eqb, false_from_ne_true, cond_both, and_parts, not-true}
 use Rattle.std.proofs.lemmas.List.Sorted.{IsPermutation-sym, IsPermutation-trans, IsPermutation-cons, IsPermutation-to_front, IsPermutation-map}
 use Rattle.sqlite.specs.Cast.{cast_row}
 use Rattle.sqlite.specs.Edit.{is_taken, with_rowid, next_rowid}
@@ -58,13 +58,9 @@ use Rattle.fax_schema.proofs.WriteLemmas.{KeepsOthers, unreferred, inserts}
 use Rattle.fax_store.proofs.KeptLemmas.{find_none, find_some, one_row}
 use Rattle.std.proofs.lemmas.Slice.Eq.{bytes_eq-Decides}
 use Rattle.sqlite.specs.Collation.TheVariants.{Binary}
-use Rattle.sqlite.specs.declared.types.Value.{Value}
 use Rattle.sqlite_schema.specs.declared.schema.Constraint.TheVariants.{Unique}
-use Rattle.sqlite_sql.specs.Ops.{binary}
 use Rattle.sqlite_sql.specs.Term.{Term}
-use Rattle.sqlite_sql.specs.declared.ops.CompareOp.TheVariants.{Eq}
 use Rattle.sqlite_value.proofs.KeyLemmas.{first_key-plain}
-use Rattle.sqlite_value.proofs.OrderLemmas.{value_cmp-apart}
 use Rattle.fax_tables.specs.declared.grants.Hold.{Hold}
 
 module _ (n : ℕ) where
@@ -411,19 +407,6 @@ module _ (db : Database) (has : db.schema ≡ our_tables) (sound : IsDatabase db
       ∙ ap₂ (λ a b. equal Binary a b && true) of_s of_r ∙ ap (λ b. b && true) (equal_texts modem modem ∙ (bytes_eq-Decides modem modem).1 refl))
 
 -- ---- the hold of a modem
-
--- ---- what is equal to a text
-
--- NULL isn't
-null_apart : (t : List ℕ) → are_equal Null (Text t) ≡ false
-unfolding binary
-null_apart t = refl
-
--- nor is a value of another class, but only the text itself
-pub text_same : (v : Value) (t : List ℕ) → are_equal v (Text t) ≡ true → v ≡ Text t
-text_same Null t h = absurd (both_ways _ (null_apart t) h)
-text_same (Text s) t h = ap Text ((bytes_eq-Decides s t).0 (sym (equal_texts s t) ∙ h))
-text_same other t h = absurd (both_ways _ (compared Eq other (Text t) refl refl ∙ ap is_eq (value_cmp-apart other (Text t) (λ e. omega arith))) h)
 
 module _ (modem : List ℕ) where
   abbrev pub modem_params : Row

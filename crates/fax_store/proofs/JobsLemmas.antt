@@ -49,14 +49,14 @@ abbrev by_number : Job → Job → Ordering
 by_number = on (λ (j : Job). j.number) nat_cmp
 
 -- numbers compared as SQL's integers are less as they are
-less_number : (n k : ℕ) → is_lt (ordering_then (int_cmp (pos n) (pos k)) Equal) ≡ is_lt (nat_cmp n k)
+pub less_number : (n k : ℕ) → is_lt (ordering_then (int_cmp (pos n) (pos k)) Equal) ≡ is_lt (nat_cmp n k)
 less_number n k = grind (arith, nat_tests)
 
 rising : (n k : ℕ) → n < k → nat_cmp n k ≡ Less
 rising n k low = grind (arith, nat_tests)
 
 -- what is shown in order is itself in order, where the two orders are the same
-in_order_of : {X : Type 0} (cmp : Output → Output → Ordering) (out : X → Output) (less : X → X → Bool)
+pub in_order_of : {X : Type 0} (cmp : Output → Output → Ordering) (out : X → Output) (less : X → X → Bool)
     → ((a b : X) → is_lt (cmp (out a) (out b)) ≡ less a b) → (xs : List X) → IsSorted cmp (map out xs) → IsSortedBy less xs
 in_order_of cmp out less same xs sorted i d from low =
     sym (same (get_or xs (i + 1) d) (get_or xs i d)) ∙ sym (ap₂ (λ a b. is_lt (cmp a b)) (get_or-map out xs (i + 1) d) (get_or-map out xs i d))

@@ -14,7 +14,9 @@ pub mod JobLemmas
 pub mod ModemLemmas
 pub mod GrantLemmas
 pub mod JobsLemmas
+pub mod RisingLemmas
 pub mod CandidateLemmas
+pub mod HundredthLemmas
 pub mod CallLemmas
 pub mod Rows
 pub mod HeldLemmas

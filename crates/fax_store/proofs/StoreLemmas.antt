@@ -1,10 +1,10 @@
 -- What a store means across the calls of its connection, and what a text that isn't compiled tells of it.
-use Rattle.std.proofs.Common.{◌≡◌, ◌⊎◌, inl, inr, ◌≤◌, ℕ, List, [], false, IsTrue, Ok, Err, Result, refl, sym, subst, ap, ◌∙◌, arith}
+use Rattle.std.proofs.Common.{◌≡◌, ◌⊎◌, inl, inr, ◌≤◌, ℕ, List, [], Bool, true, false, not, IfOk, IsTrue, Ok, Err, Result, refl, sym, subst, ap, ◌∙◌, arith}
 use Rattle.std.proofs.lemmas.Bool.{both_ways, false_from_ne_true}
 use Rattle.sqlite.specs.Effect.{Database}
 use Rattle.sqlite.specs.View.{doubt}
 use Rattle.sqlite.specs.declared.error.Error.{Error}
-use Rattle.sqlite.specs.State.{State, HasCleanDisk, IsUnchanged, IsRolledBack, Executes, Survives, HasCause, IsNoStatement, IsNotRun, store_error}
+use Rattle.sqlite.specs.State.{State, Fails, HasCleanDisk, IsUnchanged, IsRolledBack, Executes, Survives, HasCause, IsNoStatement, IsNotRun, store_error}
 use Rattle.sqlite_trees.specs.Tree.{Trees}
 use Rattle.sqlite.specs.Held.{Held, state}
 use Rattle.sqlite.specs.Steps.{over_memory}
@@ -15,6 +15,9 @@ use Rattle.fax_store.specs.declared.store.TheConstants.{BEGIN, COMMIT, ROLLBACK}
 use Rattle.fax_core.specs.Ledger.{Ledger}
 use Rattle.fax_core.specs.Queue.{Queue}
 use Rattle.fax_tables.specs.Tables.{TablesMean, IsAtRest}
+use Rattle.fax_store.specs.Shut.{SaysShut, shut_by}
+use Rattle.fax_tables.specs.declared.fault.StoreFault.{StoreFault}
+use Rattle.fax_tables.specs.declared.fault.StoreFault.TheVariants.{Unavailable}
 use Rattle.fax_store.specs.Store.{Serves, Means, HasRows, LeavesCommit, Stays, GoesBack}
 use Rattle.fax_store.specs.Work.{Begins, BeginsAt, Commits, Forgets, Undoes}
 use Rattle.fax_store.proofs.ControlLemmas.{begins, commits, commit_fails, rolls_back}
@@ -162,6 +165,22 @@ module _ (old new : State) where
   unfolding IsNotRun
   is_closed sql e is (inl (why, same)) = absurd (no_statement old sql e is why)
   is_closed sql e is (inr failed) = closed_for failed.0 (sym is ∙ failed.1) failed.2 failed.3
+
+  -- what the error of such a text says of it is so
+  pub shut_is : (e : Error) → IsNotRun old new COMMIT.now [] e → IfOk (shut_by e) (λ shut. new.is_open ≡ not shut)
+  shut_is (SqliteFailure code.Closed) h = is_closed COMMIT.now _ refl h
+  shut_is _ h = tt
+
+  -- where it is shut the answer is that it is, unless the database failed to compile for another cause
+  pub shut_or_unsure : (result : Result Bool StoreFault) → SaysShut old new result → new.is_open ≡ false → (result ≡ Ok true) ⊎ ((e : Error) × (result ≡ Err Unavailable) × Fails old new ⊥ e)
+  unfolding IsNotRun
+  shut_or_unsure result (inl (is, same)) shut = absurd (both_ways _ shut same.0.is_open)
+  shut_or_unsure result (inr (e, is, inl (why, same))) shut = absurd (both_ways _ shut same.0.is_open)
+  shut_or_unsure result (inr (e, is, inr failed)) shut = by e is failed
+    where
+      by : (e : Error) → result ≡ shut_by e → Fails old new ⊥ e → (result ≡ Ok true) ⊎ ((f : Error) × (result ≡ Err Unavailable) × Fails old new ⊥ f)
+      by (SqliteFailure code.Closed) is failed = inl is
+      by e is failed = inr (e, is, failed)
 
   -- what such a text leaves
   not_run : (sql : List ℕ) (e : Error) → IsNotRun old new sql [] e → IsUnchanged old new ⊎ IsRolledBack old new

@@ -211,6 +211,21 @@ module _ {S : Type 0} (g : Ghosts S) where
     pub found : AnswersIn (within old) old.failed (within new) result P
     pub lawful : IfOk result Lawful
 
+  -- Of a work's answer P holds of what the work means; and whatever the rows say, Q holds of them and the answer.
+  pub record TellsRows {A : Type 0} (old new : Work S) (result : Result A StoreFault) (P : Queue → Ledger → A → Type 0) (Q : Database → A → Type 0) : Type 0 where
+    pub leaves : Calls old new result
+    pub keeps : Keeps (within old) old.failed (within new) new.failed
+    pub found : AnswersIn (within old) old.failed (within new) result P
+    pub stands : AnswersRows old.store.now new.store.now result Q
+
+  -- The same, and the answer by itself is lawful.
+  pub record TellsRowsLawful {A : Type 0} (old new : Work S) (result : Result A StoreFault) (P : Queue → Ledger → A → Type 0) (Q : Database → A → Type 0) (Lawful : A → Type 0) : Type 0 where
+    pub leaves : Calls old new result
+    pub keeps : Keeps (within old) old.failed (within new) new.failed
+    pub found : AnswersIn (within old) old.failed (within new) result P
+    pub stands : AnswersRows old.store.now new.store.now result Q
+    pub lawful : IfOk result Lawful
+
   -- what the work means becomes this
   abbrev pub Becomes : Work S → Work S → (Queue → Queue) → (Ledger → Ledger) → Type 0
   Becomes old new f h = Changes (within old) old.failed (within new) new.failed f h

@@ -1,5 +1,5 @@
 -- Which of the jobs that wait are asked for, and where a reading of them stands.
-use Rattle.std.specs.Prelude.{◌≡◌, ◌<◌, ℕ, ◌==◌, Bool, true, false, ◌&&◌, ◌||◌, List, [], ◌∷◌, ◌++◌, filter, map, nat_lt, not, take, IfOk, OnOk, Option, Some, None, MatchOption, Result}
+use Rattle.std.specs.Prelude.{◌≡◌, ◌<◌, ◌≤◌, ℕ, ◌==◌, Bool, true, false, ◌&&◌, ◌||◌, List, [], ◌∷◌, ◌++◌, filter, map, nat_lt, not, take, IfOk, OnOk, Option, Some, None, MatchOption, Result}
 use Rattle.std.specs.Borrow.{GName}
 use Rattle.std.specs.Str.{bytes_eq}
 use Rattle.std.specs.Vec.Iter.{into_iter_items}
@@ -88,7 +88,11 @@ pub record IsPage (asked : Asked) (m : Queue) (front : Front) (most : ℕ) (rows
   pub waiting : AreAsked asked m all
   pub is : rows ≡ map (λ j. prospect_shown (fields_of j)) (take most (filter (is_near front) all))
 
--- The jobs that are asked for are those given, then those of the page, then those behind the front. The next page may have jobs.
+-- how many jobs a page has at most
+abbrev pub longest_page : ℕ
+longest_page = 4096
+
+-- The jobs that are asked for are those given, then those of the page, then those behind the front. The next page may have jobs, but no more than the longest.
 pub record StandsAt (asked : Asked) (m : Queue) (given : List Job) (page : List Row) (front : Front) (most : ℕ) : Type 0 where
   pub all : List Job
   pub waiting : AreAsked asked m all
@@ -96,6 +100,7 @@ pub record StandsAt (asked : Asked) (m : Queue) (given : List Job) (page : List 
   pub parts : all ≡ given ++ (read ++ filter (is_behind front) all)
   pub shown : page ≡ map (λ j. prospect_shown (fields_of j)) read
   pub some : 0 < most
+  pub bounded : most ≤ longest_page
 
 -- The next job is given, or none is, where those given are all that are asked for.
 abbrev pub Gives : {A : Type 0} → (Job → A → Type 0) → Asked → Queue → List Job → List Row → Front → ℕ → Option A → Type 0

@@ -16,7 +16,7 @@ use Rattle.fax_tables.specs.Row.{number}
 use Rattle.fax_tables.specs.declared.grants.Hold.{Hold}
 use Rattle.fax_schema.specs.Schema.{calls_tree, grants_tree, holds_tree, our_tables, core_tables}
 use Rattle.fax_tables.specs.Tables.{AreCalls, GoesOn}
-use Rattle.fax_store.specs.Store.{HasRow, HasTables}
+use Rattle.fax_store.specs.Store.{HasRow, HasTables, StandsOrNone}
 
 -- the queue with one more grant
 abbrev pub with_placed : Grant → Queue → Queue
@@ -100,6 +100,10 @@ HasHoldRow db modem = HasRow db holds_tree (1 ∷ []) (Text modem ∷ [])
 -- the grant is of this number, and stands in a row
 abbrev pub GrantStands : Database → ℕ → Grant → Type 0
 GrantStands db n g = (g.number ≡ n) × HasRow db grants_tree (0 ∷ 2 ∷ 3 ∷ 4 ∷ 5 ∷ 6 ∷ 7 ∷ 8 ∷ []) (grant_shown g)
+
+-- one has this number to dial beside these calls, or none has the number and no call is counted
+abbrev pub CallsStand : Database → List ℕ → ℕ → Type 0
+CallsStand db = StandsOrNone db calls_tree
 
 -- the hold stands in a row, beside this modem
 abbrev pub HoldStands : Database → List ℕ → Hold → Type 0

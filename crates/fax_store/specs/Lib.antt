@@ -9,3 +9,4 @@ pub mod Floors
 pub mod Meta
 pub mod Adopt
 pub mod Meaning
+pub mod Shut

@@ -1,5 +1,5 @@
 -- What a store shows.
-use Rattle.std.specs.Prelude.{◌≡◌, ◌⊎◌, ⊤, ℕ, false, List, [], map, Option, None, Ok, Err, Result, MatchResult, MatchOption, IsTrue}
+use Rattle.std.specs.Prelude.{◌≡◌, ◌⊎◌, ⊤, ℕ, false, List, [], ◌∷◌, map, Option, None, Ok, Err, Result, MatchResult, MatchOption, IsTrue}
 use Rattle.sqlite.specs.Command.{Command}
 use Rattle.sqlite.specs.Command.TheVariants.{Insert, Update, Delete}
 use Rattle.sqlite.specs.Effect.{Database}
@@ -7,6 +7,7 @@ use Rattle.sqlite.specs.Given.{IsPlain}
 use Rattle.sqlite.specs.Listing.{understood}
 use Rattle.sqlite.specs.Order.{Row, column}
 use Rattle.sqlite.specs.State.{State, HasCleanDisk, IsUnchanged, IsRolledBack, Shown, Executes}
+use Rattle.sqlite.specs.declared.types.Value.TheVariants.{Text}
 use Rattle.sqlite_resolve.specs.declared.compiled.Compiled.{Compiled}
 use Rattle.sqlite_resolve.specs.declared.error.CompileError.{CompileError}
 use Rattle.sqlite_rules.specs.Lists.{Has}
@@ -17,6 +18,7 @@ use Rattle.fax_tables.specs.Fault.{fault_of}
 use Rattle.fax_core.specs.Ledger.{Ledger}
 use Rattle.fax_core.specs.Queue.{Queue}
 use Rattle.fax_schema.specs.Schema.{our_tables}
+use Rattle.fax_tables.specs.Row.{number}
 pub use Rattle.fax_tables.specs.Stop.{MayFind, CommitsNothing}
 use Rattle.fax_tables.specs.Tables.{TablesMean, IsAtRest}
 
@@ -46,6 +48,10 @@ pub record HasRow (db : Database) (tree : ℕ) (places : List ℕ) (values : Row
   pub row : Row
   pub has : Has (db.trees tree) row
   pub is : map (column row) places ≡ values
+
+-- a row of the table has this text beside this number, or none has the text and the number is 0
+abbrev pub StandsOrNone : Database → ℕ → List ℕ → ℕ → Type 0
+StandsOrNone db tree text n = HasRow db tree (1 ∷ 2 ∷ []) (Text text ∷ number n ∷ []) ⊎ ((¬ HasRow db tree (1 ∷ []) (Text text ∷ [])) × (n ≡ 0))
 
 -- the rows of our tables stay as they are, whatever they say
 abbrev pub Stays : State → State → Type 0

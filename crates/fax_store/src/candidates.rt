@@ -6,8 +6,9 @@ ghost use Rattle.sqlite.specs.State.{HasCleanDisk};
 ghost use Rattle.fax_core.specs.Ledger.{Ledger};
 ghost use Rattle.fax_core.specs.Queue.{Queue};
 ghost use Rattle.fax_core.specs.State.{calls_to};
-ghost use Rattle.fax_store.specs.Calls.{Looks, Recalls, shown};
+ghost use Rattle.fax_store.specs.Calls.{AnswersRows, Looks, Recalls, shown};
 ghost use Rattle.fax_store.specs.Candidates.{Advances, AreAsked, Gives, IsCounted, IsPage, IsProspect, Reaches, ReadsOn, StandsAt, Starts};
+ghost use Rattle.fax_store.specs.Grant.{CallsStand};
 ghost use Rattle.fax_store.specs.Store.{Means, Serves};
 ghost use Rattle.fax_tables.specs.Fault.{OrUnavailable};
 
@@ -213,6 +214,7 @@ impl<S: Alter> Candidates<'_, S> {
             × (self.new.front ≡ self.old.front) × (self.new.most ≡ self.old.most) }
         ensures found { (m : Queue) (k : Ledger) → Means (shown S.Store self.old.store.now) m k
             → Serves (shown S.Store self.new.store.now) → OrUnavailable result (λ calls. calls ≡ calls_to dial.now m) }
+        ensures stands { AnswersRows S.Store self.old.store.now self.new.store.now result (λ db. CallsStand db dial.now) }
     {
         self.store.active_to(dial)
     }

@@ -1,10 +1,12 @@
 //! The floors: through which number each client has given up its replies.
 
-ghost use Rattle.std.specs.Prelude.{◌≡◌, ◌≤◌, ◌<◌, ◌^◌, false, IfErr, IfOk, IfSome};
+ghost use Rattle.std.specs.Prelude.{◌≡◌, ◌≤◌, ◌<◌, ◌^◌, ℕ, [], ◌∷◌, false, IfErr, IfOk, IfSome, Some};
 ghost use Rattle.fax_core.specs.Ledger.{floors_with, given_up, with_floor, without_replies};
 ghost use Rattle.fax_value.specs.Name.{IsName};
-ghost use Rattle.fax_store.specs.Calls.{Answers, Finds, MakesIf, TellsLawful, Writes, WritesIf, WritesWhere};
-ghost use Rattle.fax_store.specs.Floors.{Thins};
+ghost use Rattle.fax_store.specs.Calls.{Answers, AnswersRows, Finds, MakesIf, TellsRowsLawful, Writes, WritesIf, WritesWhere};
+ghost use Rattle.fax_store.specs.Floors.{FloorStands, IsHundredth, TakesFew, TakesHundred, Thins};
+ghost use Rattle.fax_tables.specs.Fault.{OrUnavailable};
+ghost use Rattle.fax_tables.specs.Row.{number};
 
 use crate::store::Store;
 use crate::work::Work;
@@ -16,12 +18,20 @@ use fax_tables::{StoreFault, floor_in, floor_value};
 use sqlite::{Alter, Row, params};
 
 /// The number in the row, where it is at most this one.
-fn number_through(row: &Row, floor: u64) -> Option<u64>
-    ensures { IfSome result (λ number. number ≤ floor) }
+///
+/// # Errors
+///
+/// `Unavailable`.
+fn number_through(row: &Row, floor: u64) -> Result<Option<u64>, StoreFault>
+    ensures within { IfOk result (λ found. IfSome found (λ number. number ≤ floor)) }
+    ensures found { (n : ℕ) → row.now ≡ number n ∷ [] → n ≤ floor → floor < 10 ^ 18
+        → OrUnavailable result (λ found. found ≡ Some n) }
+    ensures cause { IfErr result (λ fault. fault ≡ StoreFault.Unavailable) }
 {
     match floor_in(row) {
-        Ok(number) if number <= floor => Some(number),
-        _ => None,
+        Ok(number) if number <= floor => Ok(Some(number)),
+        Err(StoreFault::Unavailable) => Err(StoreFault::Unavailable),
+        _ => Ok(None),
     }
 }
 
@@ -34,6 +44,8 @@ impl<S: Alter> Store<S> {
     pub fn floor(&mut self, client: &str) -> Result<u64, StoreFault>
         ensures leaves { Finds S.Store self.old self.new result }
         ensures answers { Answers S.Store self.old self.new result (λ m k floor. floor ≡ k.floor client.now) }
+        // Whatever the rows say, a floor that doesn't read is never 0.
+        ensures stands { AnswersRows S.Store self.old self.new result (λ db. FloorStands db client.now) }
         ensures lawful { IfOk result (λ floor. floor < 10 ^ 18) }
     {
         match self.find(SELECT_FLOOR, params![client])? {
@@ -47,18 +59,19 @@ impl<S: Alter> Store<S> {
         requires { floor < 10 ^ 18 }
         ensures leaves { Finds S.Store self.old self.new result }
         ensures within { IfOk result (λ found. IfSome found (λ number. number ≤ floor)) }
+        ensures answers { Answers S.Store self.old self.new result (λ m. IsHundredth client.now floor) }
         ensures cause { IfErr result (λ fault. fault ≡ StoreFault.Unavailable) }
     {
         match self.find(SELECT_HUNDREDTH, params![client, floor_value(floor)])? {
-            Some(row) => Ok(number_through(&row, floor)),
+            Some(row) => number_through(&row, floor),
             None => Ok(None),
         }
     }
 
-    /// Takes the client's replies with numbers through this one away, all at once.
+    /// Takes the client's replies with numbers through this one away, all at once. They are a hundred at most.
     fn drop_through(&mut self, client: &str, floor: u64) -> Result<(), StoreFault>
         requires { floor < 10 ^ 18 }
-        ensures { Writes S.Store self.old self.new result (λ m. m) (without_replies client.now floor) }
+        ensures { TakesFew S.Store client.now floor self.old self.new result }
     {
         self.run(DELETE_REPLIES, params![client, floor_value(floor)])
     }
@@ -66,7 +79,7 @@ impl<S: Alter> Store<S> {
     /// Takes a hundred of the client's replies with numbers through this one away, and gives whether there were so many.
     fn drop_hundred(&mut self, client: &str, floor: u64) -> Result<bool, StoreFault>
         requires { floor < 10 ^ 18 }
-        ensures thins { Thins S.Store client.now floor self.old self.new result }
+        ensures takes { TakesHundred S.Store client.now floor self.old self.new result }
         ensures cause { IfErr result (λ fault. fault ≡ StoreFault.Unavailable) }
     {
         match self.hundredth(client, floor)? {
@@ -141,8 +154,8 @@ impl<S: Alter> Work<'_, S> {
     ///
     /// `Unavailable`, or `Strange` where its row is no lawful record.
     pub fn floor(&mut self, client: &str) -> Result<u64, StoreFault>
-        ensures { TellsLawful S.Store self.old self.new result (λ m k floor. floor ≡ k.floor client.now)
-            (λ floor. floor < 10 ^ 18) }
+        ensures { TellsRowsLawful S.Store self.old self.new result (λ m k floor. floor ≡ k.floor client.now)
+            (λ db. FloorStands db client.now) (λ floor. floor < 10 ^ 18) }
     {
         if self.failed {
             return Err(StoreFault::Unavailable);

@@ -8,8 +8,8 @@ ghost use Rattle.fax_core.specs.Ledger.{Ledger};
 ghost use Rattle.fax_core.specs.Queue.{Queue, grant_numbered};
 ghost use Rattle.fax_core.specs.State.{calls_to};
 ghost use Rattle.fax_value.specs.Limits.{most_pages};
-ghost use Rattle.fax_store.specs.Calls.{Answers, BecomesWhere, Calls, Finds, LooksUpLawful, MakesIf, Recalls, Runs, Tells, TellsLawful, WritesIf, WritesIfWhere, WritesWhere, shown};
-ghost use Rattle.fax_store.specs.Grant.{GrantStands, HasCalls, HasGrantRow, HasHoldRow, HoldStands, IsCalled, IsHeld, IsHeldBy, IsNewGrant, IsReport, SetsCalls, with_count, with_placed, with_one_more_grant, with_closed};
+ghost use Rattle.fax_store.specs.Calls.{Answers, AnswersRows, BecomesWhere, Calls, Finds, LooksUpLawful, MakesIf, RecallsRows, Runs, TellsLawful, TellsRows, WritesIf, WritesIfWhere, WritesWhere, shown};
+ghost use Rattle.fax_store.specs.Grant.{CallsStand, GrantStands, HasCalls, HasGrantRow, HasHoldRow, HoldStands, IsCalled, IsHeld, IsHeldBy, IsNewGrant, IsReport, SetsCalls, with_count, with_placed, with_one_more_grant, with_closed};
 ghost use Rattle.fax_store.specs.Meta.{IsGrantLeft};
 ghost use Rattle.fax_store.specs.Store.{Serves, HasTables};
 ghost use Rattle.fax_store.specs.Work.{Works, Moves, Steps};
@@ -69,7 +69,8 @@ impl<S: Alter> Store<S> {
     ///
     /// `Unavailable`, or `Strange` where its row is no lawful record.
     pub fn active_to(&mut self, dial: &Dial) -> Result<u64, StoreFault>
-        ensures { Recalls S.Store self.old self.new result (λ m k calls. calls ≡ calls_to dial.now m) }
+        ensures { RecallsRows S.Store self.old self.new result (λ m k calls. calls ≡ calls_to dial.now m)
+            (λ db. CallsStand db dial.now) }
     {
         Ok(u64::from(self.read_calls(dial)?))
     }
@@ -77,6 +78,7 @@ impl<S: Alter> Store<S> {
     pub(crate) fn read_calls(&mut self, dial: &Dial) -> Result<u32, StoreFault>
         ensures leaves { Finds S.Store self.old self.new result }
         ensures answers { Answers S.Store self.old self.new result (λ m k calls. calls ≡ calls_to dial.now m) }
+        ensures stands { AnswersRows S.Store self.old self.new result (λ db. CallsStand db dial.now) }
         ensures counted { (count : List ℕ → ℕ) → HasTables (shown S.Store self.old)
             → AreCalls count ((shown S.Store self.old).now.trees calls_tree) → count dial.now < 2 ^ 32
             → HasCleanDisk (shown S.Store self.new) → OrUnavailable result (λ calls. calls ≡ count dial.now) }
@@ -264,7 +266,8 @@ impl<S: Alter> Work<'_, S> {
     ///
     /// `Unavailable`, or `Strange` where its row is no lawful record.
     pub fn active_to(&mut self, dial: &Dial) -> Result<u64, StoreFault>
-        ensures { Tells S.Store self.old self.new result (λ m k calls. calls ≡ calls_to dial.now m) }
+        ensures { TellsRows S.Store self.old self.new result (λ m k calls. calls ≡ calls_to dial.now m)
+            (λ db. CallsStand db dial.now) }
     {
         if self.failed {
             return Err(StoreFault::Unavailable);

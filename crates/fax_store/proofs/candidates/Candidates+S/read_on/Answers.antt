@@ -1,7 +1,7 @@
-use Rattle.std.proofs.Common.{◌≡◌, ◌∙◌, ◌<◌, ap, sym, arith, rules}
+use Rattle.std.proofs.Common.{◌≡◌, ◌∙◌, ◌<◌, ◌≤◌, ap, sym, arith, rules}
 use Rattle.std.specs.Vec.Iter.{into_iter_items}
 use Rattle.fax_core.specs.Job.{fields_of}
-use Rattle.fax_store.specs.Candidates.{front_of}
+use Rattle.fax_store.specs.Candidates.{front_of, longest_page}
 use Rattle.fax_store.proofs.CandidateLemmas.{all_given, page_empty, page_ends, page_lawful, stands_on, stands_page}
 use Rattle.fax_store.proofs.FrameLemmas.{means_now, passes_on}
 use Rattle.fax_store.proofs.candidates.Candidates+S.read_on.Goals as goal
@@ -33,6 +33,7 @@ returns g c = record {
   found = λ m k given means serves stands. let next = c.in_ok-page.ensures.answers m k (means_now means) serves in
       let means_now = (means (c.page.ensures.leaves.served serves)).means in
       let more : 0 < c.min-self.result = omega (arith, stands.some, c.saturating_add.ensures, c.min-self.ensures) in
+      let bounded : c.min-self.result ≤ longest_page = omega (arith, c.min-self.ensures) in
       let page : into_iter_items c.into_iter.result ≡ c.in_ok-page.page.items = c.into_iter.ensures.rest in (
         rw page (elim c.match-last.branch [
           | in-Some+in_ok-prospect_in-in-Some w ↦
@@ -40,10 +41,10 @@ returns g c = record {
               let lawful = page_lawful _ m _ _ next.all it.0 it.1 means_now.lawful.jobs next.waiting it.2 in
               let prospect = w.in_ok-prospect_in-in-Some.ensures.found (fields_of it.1) it.3 lawful.limits lawful.formed in
               rw (w.self-is ∙ w.of-self.ensures ∙ ap front_of prospect) (stands_page _ m k means_now _ given _ _ stands _ next it.0 it.1 it.2
-              c.min-self.result more)
+              c.min-self.result more bounded)
           | in-None w ↦
               let empty = page_empty _ (rw c.deref.ensures.value at w.in-None.ensures.value) in
-              rw (w.self-is ∙ w.next-self.ensures) (stands_on _ m k means_now _ given _ _ stands _ next empty c.min-self.result more)
+              rw (w.self-is ∙ w.next-self.ensures) (stands_on _ m k means_now _ given _ _ stands _ next empty c.min-self.result more bounded)
         ]),
         λ none last. all_given _ m k means_now _ given _ _ stands _ next (sym page ∙ none) (sym c.is_last-is_last.ensures ∙ last),
       );

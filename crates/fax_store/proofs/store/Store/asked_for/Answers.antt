@@ -1,6 +1,7 @@
 use Rattle.std.proofs.Common.{◌≡◌, [], sym, subst, arith, rules}
 use Rattle.std.specs.Vec.Iter.{into_iter_items}
 use Rattle.fax_store.specs.Candidates.{StandsAt}
+use Rattle.fax_store.specs.declared.candidates.TheConstants.{FIRST_PAGE}
 use Rattle.fax_store.specs.declared.candidates.Front.TheVariants.{First}
 use Rattle.fax_store.proofs.CandidateLemmas.{stands_first}
 use Rattle.fax_store.proofs.store.Store.asked_for.Goals as goal
@@ -11,5 +12,5 @@ returns g c = record {
   same = search rules;
   asked = search rules;
   stands = λ m k means serves. let empty : into_iter_items c.into_iter.result ≡ [] = search rules in
-      subst (λ rows. StandsAt c.args.asked m [] rows First 16) (sym empty) (stands_first _ m k (means serves).means c.args.asked 16 (omega arith));
+      subst (λ rows. StandsAt c.args.asked m [] rows First FIRST_PAGE) (sym empty) (stands_first _ m k (means serves).means c.args.asked FIRST_PAGE (omega arith) (omega arith));
 }

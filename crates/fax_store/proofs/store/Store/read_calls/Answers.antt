@@ -26,3 +26,15 @@ pub returns-in-None-clause-answers : goal.returns-in-None-clause-answers
 returns-in-None-clause-answers g c m k means s =
     let means_now = means (c.in_ok-row.ensures.leaves.served s) in
     returns-in-None-clause-counted g c (λ d. calls_to d m) means_now.schema (record { is = means_now.calls; ordered = means_now.ordered.calls }) (calls_fit _ m k means_now c.args.dial.now) s.clean
+
+pub returns-in-Some-clause-stands : goal.returns-in-Some-clause-stands
+returns-in-Some-clause-stands g c db ours now clean =
+    let dial = c.args.dial.now in
+    let found = (queries_with g.S.Store _ _ _ _ _ (calls.params dial) (search rules) c.in_ok-row.ensures).found clean in
+    calls.calls_stand dial _ _ db ours now (λ n. n) c.in-Some.row c.calls_in.result c.calls_in.ensures.stands (rw c.in-Some.is at found)
+
+pub returns-in-None-clause-stands : goal.returns-in-None-clause-stands
+returns-in-None-clause-stands g c db ours now clean =
+    let dial = c.args.dial.now in
+    let found = (queries_with g.S.Store _ _ _ _ _ (calls.params dial) (search rules) c.in_ok-row.ensures).found clean in
+    calls.no_calls_stand dial _ _ db ours now (rw c.in-None.is at found)
