@@ -11,6 +11,7 @@ use Rattle.fax_net.proofs.ConversingLemmas.{owed_more, owed_refused}
 -- an act that fits leaves each its own
 acted_own : (act : Act) (t : Talk) → Fits act t → IsItsOwn t → IsItsOwn (acted act t)
 acted_own Came t fits own = record { rest = []; reads = refl; going = inl refl; within = omega arith; left = []; owes = refl }
+acted_own Missed t fits own = record { rest = own.rest; reads = own.reads; going = own.going; within = own.within; left = own.left; owes = own.owes }
 acted_own (Said bytes) t fits own = record {
   rest = own.rest ++ bytes;
   reads = reads_more t.said t.turns own.rest bytes own.reads;
@@ -21,7 +22,7 @@ acted_own (Said bytes) t fits own = record {
 }
 acted_own Dry t fits own = record { rest = own.rest; reads = own.reads; going = own.going; within = own.within; left = own.left; owes = own.owes }
 acted_own Ended t fits own = record { rest = own.rest; reads = own.reads; going = own.going; within = own.within; left = own.left; owes = own.owes }
-acted_own (Took bytes) t (left, owes) own = record {
+acted_own (Took bytes) t (some, (left, owes)) own = record {
   rest = own.rest;
   reads = own.reads;
   going = own.going;
@@ -29,7 +30,7 @@ acted_own (Took bytes) t (left, owes) own = record {
   left = left;
   owes = owes ∙ sym (append_assoc t.took bytes left);
 }
-acted_own Waits t fits own = own
+acted_own Waits t fits own = record { rest = own.rest; reads = own.reads; going = own.going; within = own.within; left = own.left; owes = own.owes }
 acted_own Failed t fits own = record { rest = own.rest; reads = own.reads; going = own.going; within = own.within; left = own.left; owes = own.owes }
 acted_own Left t fits own = record { rest = own.rest; reads = own.reads; going = own.going; within = own.within; left = own.left; owes = own.owes }
 acted_own Held t fits own = record { rest = own.rest; reads = own.reads; going = own.going; within = own.within; left = own.left; owes = own.owes }
@@ -64,9 +65,8 @@ step_own other place act earlier fits own = by (nat_eq other place) refl
 
 -- what each connection gets is its own, at each place of a history that fits
 pub each_its_own : EachItsOwn
-each_its_own [] place right = record { rest = []; reads = refl; going = inl refl; within = omega arith; left = []; owes = refl }
-each_its_own (At other act ∷ earlier) place (right, below, fits, has_room) = step_own other place act earlier fits (each_its_own earlier place right)
-each_its_own (Missed ∷ earlier) place right = each_its_own earlier place right
-each_its_own (Looked is_busy ∷ earlier) place (right, attended) =
-    let own = each_its_own earlier place right in
+each_its_own count [] place right = record { rest = []; reads = refl; going = inl refl; within = omega arith; left = []; owes = refl }
+each_its_own count (At other act ∷ earlier) place (right, below, fits, has_room) = step_own other place act earlier fits (each_its_own count earlier place right)
+each_its_own count (Looked is_busy may_come ∷ earlier) place (right, may, attended) =
+    let own = each_its_own count earlier place right in
     record { rest = own.rest; reads = own.reads; going = own.going; within = own.within; left = own.left; owes = own.owes }

@@ -6,5 +6,6 @@ mod ListLemmas
 mod ListeningLemmas
 mod ManyLemmas
 mod RoomLemmas
+mod RowsHistory
 mod RowsLines
 mod SendfaxLemmas

@@ -25,8 +25,8 @@ module _ {H : Type 0} (answers : Answering H) (over : H → Bool) (old : H) wher
   answers_of (At place Left ∷ earlier) new a = answers_of earlier new a
   answers_of (At place Held ∷ earlier) new a = answers_of earlier new a
   answers_of (At place (Refused broken) ∷ earlier) new a = answers_of earlier new a
-  answers_of (Missed ∷ earlier) new a = answers_of earlier new a
-  answers_of (Looked is_busy ∷ earlier) new a = answers_of earlier new a
+  answers_of (At place Missed ∷ earlier) new a = answers_of earlier new a
+  answers_of (Looked is_busy may_come ∷ earlier) new a = answers_of earlier new a
 
   -- where who answers isn't over in the end, it never was
   never_over : (history : List Step) (new : H) → AreAnswered answers over old history new → over new ≡ false → IsNeverOver history
@@ -42,8 +42,8 @@ module _ {H : Type 0} (answers : Answering H) (over : H → Bool) (old : H) wher
   never_over (At place Left ∷ earlier) new a none = never_over earlier new a none
   never_over (At place Held ∷ earlier) new a none = never_over earlier new a none
   never_over (At place (Refused broken) ∷ earlier) new a none = never_over earlier new a none
-  never_over (Missed ∷ earlier) new a none = never_over earlier new a none
-  never_over (Looked is_busy ∷ earlier) new a none = never_over earlier new a none
+  never_over (At place Missed ∷ earlier) new a none = never_over earlier new a none
+  never_over (Looked is_busy may_come ∷ earlier) new a none = never_over earlier new a none
 
   -- who answers was over at the last message at most
   over_at_last : (history : List Step) (new : H) → AreAnswered answers over old history new → IsOverAtLast history (over new)
@@ -59,8 +59,8 @@ module _ {H : Type 0} (answers : Answering H) (over : H → Bool) (old : H) wher
   over_at_last (At place Left ∷ earlier) new a = over_at_last earlier new a
   over_at_last (At place Held ∷ earlier) new a = over_at_last earlier new a
   over_at_last (At place (Refused broken) ∷ earlier) new a = over_at_last earlier new a
-  over_at_last (Missed ∷ earlier) new a = over_at_last earlier new a
-  over_at_last (Looked is_busy ∷ earlier) new a = over_at_last earlier new a
+  over_at_last (At place Missed ∷ earlier) new a = over_at_last earlier new a
+  over_at_last (Looked is_busy may_come ∷ earlier) new a = over_at_last earlier new a
 
 -- what was served is what it listened to
 pub has_listened : {W H : Type 0} (contents : W → Option (List ℕ)) (out out₂ : Watched W) (did : Sockets → Step → Sockets → Type 0) (answers : Answering H) (over : H → Bool)

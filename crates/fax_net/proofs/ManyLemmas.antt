@@ -1,5 +1,7 @@
 -- All places, one after the other.
 use Rattle.std.proofs.Common.{◌≡◌, ℕ, ◌+◌, ◌-◌, ◌^◌, ◌<◌, ◌≤◌, Bool, true, false, ◌||◌, List, [], ◌∷◌, length, get_or, set, refl, ap, sym, ◌∙◌, subst, inl, inr, arith, length-set, get_or-set_same, get_or-set_other}
+use Rattle.std.proofs.lemmas.Bool.Decides.{nat_tests}
+use Rattle.std.specs.Prelude.{nat_lt}
 use Rattle.fax_http.specs.Serving.{Answering}
 use Rattle.fax_net.specs.History.{GoesOn, IsAttended, IsDone, Looked, Step, Talk, comings, looked, looks, talk}
 use Rattle.fax_net.specs.Link.{HasSaidAll, Holds, IsEnding, IsGoing}
@@ -13,16 +15,31 @@ use Rattle.fax_net.proofs.ListLemmas.{same_or}
 -- ---- a round
 
 -- a place that was attended to is so after others
-attended_or : (a b : Bool) (t : Talk) → IsAttended a t → IsAttended (a || b) t
-attended_or true b t at = at
-attended_or false b t (inl (is, moved)) = absurd cc
-attended_or false b t (inr quiet) = inr quiet
+attended_or : (a b c : Bool) (t : Talk) → IsAttended a c t → IsAttended (a || b) c t
+attended_or true b c t at = at
+attended_or false b c t (inl (is, moved)) = absurd cc
+attended_or false b c t (inr quiet) = inr quiet
 
 -- so is one behind others
-attended_behind : (a b : Bool) (t : Talk) → IsAttended b t → IsAttended (a || b) t
-attended_behind true b t (inl (is, moved)) = inl (refl, moved)
-attended_behind true b t (inr quiet) = inr quiet
-attended_behind false b t at = at
+attended_behind : (a b c : Bool) (t : Talk) → IsAttended b c t → IsAttended (a || b) c t
+attended_behind true b c t (inl (is, moved)) = inl (refl, moved)
+attended_behind true b c t (inr quiet) = inr quiet
+attended_behind false b c t at = at
+
+-- and where fewer are to come
+attended_later : (b c c₂ : Bool) (t : Talk) → (c ≡ false → c₂ ≡ false) → IsAttended b c t → IsAttended b c₂ t
+attended_later b c c₂ t fewer (inl moved) = inl moved
+attended_later b c c₂ t fewer (inr (inl (closed, inl none))) = inr (inl (closed, inl (fewer none)))
+attended_later b c c₂ t fewer (inr (inl (closed, inr asked))) = inr (inl (closed, inr asked))
+attended_later b c c₂ t fewer (inr (inr other)) = inr (inr other)
+
+-- where none are to come, none are later
+none_later : (n m : ℕ) → m ≤ n → nat_lt 0 n ≡ false → nat_lt 0 m ≡ false
+none_later n m less none = grind (arith, nat_tests)
+
+-- whether more are to come, by how many came
+may_come_is : (came left count : ℕ) → came + left ≡ count → nat_lt came count ≡ nat_lt 0 left
+may_come_is came left count is = grind (arith, nat_tests)
 
 -- a number below the next that isn't this one is below this one
 below_next : (k place : ℕ) → k < place + 1 → ¬ (place ≡ k) → k < place
@@ -37,25 +54,26 @@ hold_set earlier later links place link all others within here k d below = elim 
       (subst (λ v. Holds (talk k earlier) v) (sym (get_or-set_other links place k link d (λ e. unlike (sym e)))) (all k d (omega (arith, below, length-set {A = Link}))))
 ]
 
-module _ {P H : Type 0} (did : P → Step → P → Type 0) (answers : Answering H) (over : H → Bool) where
+module _ {P H : Type 0} (did : P → Step → P → Type 0) (answers : Answering H) (over : H → Bool) (count : ℕ) where
   -- the places in front had their turn
   pub record RoundTo (place : ℕ) (peers : P) (handler : H) (links : List Link) (left₀ left : ℕ) (is_busy : Bool) (start : P) (first : H) (earlier : List Step) : Type 0 where
     pub later : List Step
-    pub runs : Runs did answers over start first later peers handler
+    pub runs : Runs did answers over count start first later peers handler
     pub holds : AllHold later links
     pub left_is : comings later + left ≡ comings earlier + left₀
     pub looks_are : looks later ≡ looks earlier
     pub fresh : (k : ℕ) → place ≤ k → (talk k later).replies ≡ 0
-    pub attended : (k : ℕ) → k < place → IsAttended is_busy (talk k later)
+    pub attended : (k : ℕ) → k < place → IsAttended is_busy (nat_lt 0 left) (talk k later)
 
+module _ {P H : Type 0} (did : P → Step → P → Type 0) (answers : Answering H) (over : H → Bool) where
   abbrev pub RoundsTo : ℕ → P → P → H → H → List Link → List Link → ℕ → ℕ → Bool → Type 0
   RoundsTo place peers₀ peers handler₀ handler links₀ links left₀ left is_busy =
-      (start : P) (first : H) (earlier : List Step) → Runs did answers over start first earlier peers₀ handler₀ → AllHold earlier links₀
-      → ((k : ℕ) → (talk k earlier).replies ≡ 0) → RoundTo place peers handler links left₀ left is_busy start first earlier
+      (count : ℕ) (start : P) (first : H) (earlier : List Step) → Runs did answers over count start first earlier peers₀ handler₀ → AllHold earlier links₀
+      → ((k : ℕ) → (talk k earlier).replies ≡ 0) → RoundTo did answers over count place peers handler links left₀ left is_busy start first earlier
 
   -- no place had its turn yet
   pub round_begins : (peers : P) (handler : H) (links : List Link) (left : ℕ) → RoundsTo 0 peers peers handler handler links links left left false
-  round_begins peers handler links left start first earlier runs all fresh = record {
+  round_begins peers handler links left count start first earlier runs all fresh = record {
     later = earlier;
     runs = runs;
     holds = all;
@@ -69,12 +87,12 @@ module _ {P H : Type 0} (did : P → Step → P → Type 0) (answers : Answering
     -- one place more had its turn
     pub round_next : (Known : List Step → Type 0) → RoundsTo place peers₀ peers handler₀ handler links₀ links left₀ left is_busy → place < 64 → length links ≡ 64
         → ((history : List Step) → AllHold history links → Known history)
-        → Moves did answers over place peers peers₂ handler handler₂ (get_or links place d) link₂ left left₂ Known moved (IsAttended moved)
+        → Moves did answers over place peers peers₂ handler handler₂ (get_or links place d) link₂ left left₂ Known moved (IsAttended moved (nat_lt 0 left₂))
         → RoundsTo (place + 1) peers₀ peers₂ handler₀ handler₂ links₀ (set links place link₂) left₀ left₂ (is_busy || moved)
-    round_next Known far below size known moves start first earlier runs all fresh =
-        let r = far start first earlier runs all fresh in
-        let g : GoesFrom did answers over place peers₂ handler₂ link₂ left left₂ moved (IsAttended moved) start first r.later =
-        moves start first r.later r.runs below (r.holds place d (omega (arith, below, size))) (r.fresh place (omega arith)) (known r.later r.holds) in
+    round_next Known far below size known moves count start first earlier runs all fresh =
+        let r = far count start first earlier runs all fresh in
+        let g : GoesFrom did answers over count place peers₂ handler₂ link₂ left left₂ moved (IsAttended moved (nat_lt 0 left₂)) start first r.later =
+        moves count start first r.later r.runs below (r.holds place d (omega (arith, below, size))) (r.fresh place (omega arith)) (known r.later r.holds) in
         record {
           later = g.later;
           runs = g.runs;
@@ -83,9 +101,10 @@ module _ {P H : Type 0} (did : P → Step → P → Type 0) (answers : Answering
           looks_are = g.looks_are ∙ r.looks_are;
           fresh = λ k within. ap (λ t. t.replies) (g.others k (λ e. omega (arith, e, within))) ∙ r.fresh k (omega (arith, within));
           attended = λ k under. elim (same_or place k) [
-            | inl is ↦ subst (λ j. IsAttended (is_busy || moved) (talk j g.later)) is (attended_behind is_busy moved (talk place g.later) g.also)
-            | inr unlike ↦ subst (λ t. IsAttended (is_busy || moved) t) (sym (g.others k unlike))
-                (attended_or is_busy moved (talk k r.later) (r.attended k (below_next k place under unlike)))
+            | inl is ↦ subst (λ j. IsAttended (is_busy || moved) (nat_lt 0 left₂) (talk j g.later)) is (attended_behind is_busy moved (nat_lt 0 left₂) (talk place g.later) g.also)
+            | inr unlike ↦ subst (λ t. IsAttended (is_busy || moved) (nat_lt 0 left₂) t) (sym (g.others k unlike))
+                (attended_later (is_busy || moved) (nat_lt 0 left) (nat_lt 0 left₂) (talk k r.later) (none_later left left₂ (omega (arith, g.left_is, g.grown)))
+                (attended_or is_busy moved (nat_lt 0 left) (talk k r.later) (r.attended k (below_next k place under unlike))))
           ];
         }
 
@@ -93,14 +112,14 @@ module _ {P H : Type 0} (did : P → Step → P → Type 0) (answers : Answering
       (far : RoundsTo place peers₀ peers handler₀ handler links₀ links left₀ left is_busy) where
     -- where who answers is over, the round is
     pub round_over : (busy : Bool) → over handler ≡ true → Rounds did answers over peers₀ peers handler₀ handler links₀ links left₀ left busy
-    round_over busy is start first earlier runs all fresh =
-        let r = far start first earlier runs all fresh in
+    round_over busy is count start first earlier runs all fresh =
+        let r = far count start first earlier runs all fresh in
         record { later = r.later; runs = r.runs; holds = r.holds; left_is = r.left_is; looks_are = r.looks_are; attended = λ on. absurd (let never = sym is ∙ on in cc) }
 
     -- where all 64 places had their turn, the round is over
     pub round_ends : 64 ≤ place → Rounds did answers over peers₀ peers handler₀ handler links₀ links left₀ left is_busy
-    round_ends all_of start first earlier runs all fresh =
-        let r = far start first earlier runs all fresh in
+    round_ends all_of count start first earlier runs all fresh =
+        let r = far count start first earlier runs all fresh in
         record { later = r.later; runs = r.runs; holds = r.holds; left_is = r.left_is; looks_are = r.looks_are; attended = λ on k below. r.attended k (omega (arith, below, all_of)) }
 
 -- one of them
@@ -112,7 +131,7 @@ some_link (link ∷ links) some = link
 
 -- a conversation goes on past a look
 goes_looked : (t : Talk) (rest : List ℕ) → GoesOn t rest → GoesOn (looked t) rest
-goes_looked t rest g = record { reads = g.reads; going = g.going; below = g.below; unrefused = g.unrefused }
+goes_looked t rest g = record { is_there = g.is_there; reads = g.reads; going = g.going; below = g.below; unrefused = g.unrefused }
 
 -- what is kept of it does
 going_looked : (t : Talk) (link : Link) → IsGoing t link → IsGoing (looked t) link
@@ -142,11 +161,11 @@ module _ {P H : Type 0} (did : P → Step → P → Type 0) (answers : Answering
   -- so often it looked, and so many are still to come
   pub record Serving (now : P) (handler₁ : H) (links : List Link) (left : ℕ) (is_busy : Bool) (rounds : ℕ) : Type 0 where
     pub history : List Step
-    pub runs : Runs did answers over peers handler history now handler₁
+    pub runs : Runs did answers over count peers handler history now handler₁
     pub holds : AllHold history links
     pub left_is : comings history + left ≡ count
     pub looks_are : looks history ≡ rounds
-    pub attended : over handler₁ ≡ false → (k : ℕ) → k < 64 → IsAttended is_busy (talk k history)
+    pub attended : over handler₁ ≡ false → (k : ℕ) → k < 64 → IsAttended is_busy (nat_lt 0 left) (talk k history)
 
   -- with all places free, nothing was looked at yet
   pub serving_begins : (links : List Link) → ((k : ℕ) (d : Link) → k < length links → (get_or links k d).stage ≡ Free) → Serving peers handler links count true 0
@@ -156,17 +175,17 @@ module _ {P H : Type 0} (did : P → Step → P → Type 0) (answers : Answering
     holds = λ k d below. held (talk k []) (get_or links k d) Free (free k d below) refl;
     left_is = omega arith;
     looks_are = refl;
-    attended = λ on k below. inr (inl refl);
+    attended = λ on k below. inl (refl, refl);
   }
 
   module _ (now : P) (handler₁ : H) (links : List Link) (left : ℕ) (is_busy : Bool) (rounds : ℕ) (s : Serving now handler₁ links left is_busy rounds) where
     -- a look and a round more
-    pub serving_next : (then next : P) (handler₂ : H) (links₂ : List Link) (left₂ : ℕ) (busy : Bool) → over handler₁ ≡ false → did now (Looked is_busy) then
+    pub serving_next : (then next : P) (handler₂ : H) (links₂ : List Link) (left₂ : ℕ) (busy : Bool) → over handler₁ ≡ false → did now (Looked is_busy (nat_lt 0 left)) then
         → Rounds did answers over then next handler₁ handler₂ links links₂ left left₂ busy → Serving next handler₂ links₂ left₂ busy (rounds + 1)
     serving_next then next handler₂ links₂ left₂ busy on looks_now round =
-        let r : GoesRound did answers over next handler₂ links₂ left left₂ busy peers handler (Looked is_busy ∷ s.history) =
-        round peers handler (Looked is_busy ∷ s.history)
-        (record { happens = (now, s.runs.happens, looks_now); answered = s.runs.answered; right = (s.runs.right, s.attended on) })
+        let r : GoesRound did answers over count next handler₂ links₂ left left₂ busy peers handler (Looked is_busy (nat_lt 0 left) ∷ s.history) =
+        round count peers handler (Looked is_busy (nat_lt 0 left) ∷ s.history)
+        (record { happens = (now, s.runs.happens, looks_now); answered = s.runs.answered; right = (s.runs.right, sym (may_come_is (comings s.history) left count s.left_is), s.attended on) })
         (λ k d below. holds_looked (talk k s.history) (get_or links k d) (s.holds k d below))
         (λ k. refl) in
         record {

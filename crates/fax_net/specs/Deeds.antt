@@ -3,11 +3,12 @@ use Rattle.std.specs.Prelude.{◌≡◌, ◌⊎◌, ℕ, ◌+◌, Bool, true, fa
 use Rattle.fax_net.specs.declared.link.Link.{Link}
 use Rattle.fax_net.specs.declared.link.Stage.TheVariants.{Free, Open}
 use Rattle.fax_net.specs.History.{Act, Answered, At, Came, Dry, Ended, Failed, Fits, Held, Left, Missed, Refused, Said, Step, Talk, Took, Waits, acted}
-use Rattle.fax_net.specs.Link.{IsUnused, awaits, is_held, Holds}
+use Rattle.fax_net.specs.Link.{IsUnused, awaits, is_held, is_owing, Holds}
 
 -- an act of a connection that is there
 abbrev pub is_deed : Act → Bool
 is_deed Came = false
+is_deed Missed = false
 is_deed (Said bytes) = true
 is_deed Dry = true
 is_deed Ended = true
@@ -22,6 +23,7 @@ is_deed (Refused broken) = false
 -- something moved by it
 abbrev pub moves : Act → Bool
 moves Came = true
+moves Missed = false
 moves (Said bytes) = true
 moves Dry = false
 moves Ended = true
@@ -53,6 +55,10 @@ module _ {P : Type 0} (did : P → Step → P → Type 0) (place : ℕ) (peers p
   abbrev pub TakesIn : Bool → Type 0
   TakesIn moved = ((act : Act) × Acts act moved × (moved ≡ false → act ≡ Dry)) ⊎ ((awaits link ≡ false) × Rests moved)
 
+  -- where something is owed, it was written: where nothing moved, the peer took nothing
+  abbrev pub Writes : Bool → Type 0
+  Writes moved = ((act : Act) × Acts act moved × (moved ≡ false → act ≡ Waits)) ⊎ ((is_owing link ≡ false) × Rests moved)
+
   -- a connection that is to be held is, or its time is over and it is closed; else nothing is done
   abbrev pub HoldsUp : Bool → Bool → Type 0
   HoldsUp is_full moved =
@@ -60,10 +66,10 @@ module _ {P : Type 0} (did : P → Step → P → Type 0) (place : ℕ) (peers p
       ⊎ ((is_held is_full link ≡ true) × ((did peers (At place Held) peers₂ × (link₂ ≡ link) × (moved ≡ false))
       ⊎ (did peers (At place Failed) peers₂ × IsUnused link₂ Free × (moved ≡ true))))
 
-  -- a connection came, or one that can't be accepted, or nobody; or no more are to come
+  -- a connection came, or one that can't be accepted, or nobody; only where no more are to come was nobody asked for
   abbrev pub Admits : ℕ → ℕ → Bool → Type 0
   Admits left left₂ moved =
       (did peers (At place Came) peers₂ × IsUnused link₂ Open × (left ≡ left₂ + 1) × (moved ≡ true))
-      ⊎ ((did peers Missed peers₂ × (link₂ ≡ link) × (left ≡ left₂ + 1) × (moved ≡ false))
+      ⊎ ((did peers (At place Missed) peers₂ × (link₂ ≡ link) × (left ≡ left₂ + 1) × (moved ≡ false))
       ⊎ ((did peers (At place Waits) peers₂ × (link₂ ≡ link) × (left₂ ≡ left) × (moved ≡ false))
-      ⊎ (Rests moved × (left₂ ≡ left))))
+      ⊎ (Rests moved × (left ≡ 0) × (left₂ ≡ 0))))

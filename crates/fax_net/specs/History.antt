@@ -9,9 +9,10 @@ use Rattle.fax_http.specs.Serving.{Answering}
 
 -- ---- steps
 
--- what happens at a place: a connection comes, says these bytes, says nothing yet, says no more, takes these bytes, takes nothing yet, fails, is ended, or is held since there is no room for the listing that it asks for; its next message is answered, or what begins none
+-- what happens at a place: a connection comes, can't be accepted, says these bytes, says nothing yet, says no more, takes these bytes, takes nothing yet, fails, is ended, or is held since there is no room for the listing that it asks for; its next message is answered, or what begins none
 pub data Act : Type 0 where
   Came : Act
+  Missed : Act
   Said : (bytes : List ℕ) → Act
   Dry : Act
   Ended : Act
@@ -23,15 +24,19 @@ pub data Act : Type 0 where
   Answered : (turn : Turn) → (is_over : Bool) → Act
   Refused : (broken : Broken) → Act
 
--- an act at a place; a connection that can't be accepted; or a look at all connections, for which the server waits where it has nothing to do
+-- an act at a place; or a look at all connections, for which the server waits where it has nothing to do, and which says whether more are to come
 pub data Step : Type 0 where
   At : (place : ℕ) → (act : Act) → Step
-  Missed : Step
-  Looked : (is_busy : Bool) → Step
+  Looked : (is_busy may_come : Bool) → Step
 
 -- ---- what became of one connection
 
--- what is known of the connection at a place: what it said and took, its messages with their replies, and since the last look whether something moved and whether it was held
+-- what is known of the connection at a place: what it said and took, its messages with their replies, and since the last look
+-- is_dry: it said nothing more when it was read from last
+-- is_blocked: it took nothing when it was written to last, or nobody took the place when it was free
+-- is_moved: something moved; before the first look each place counts as moved
+-- is_held: it was held
+-- replies: so many of its messages were answered
 pub record Talk : Type 0 where
   pub is_open : Bool
   pub said : List ℕ
@@ -41,11 +46,12 @@ pub record Talk : Type 0 where
   pub has_ended : Bool
   pub is_over : Bool
   pub is_dry : Bool
+  pub is_blocked : Bool
   pub is_moved : Bool
   pub is_held : Bool
   pub replies : ℕ
 
--- a place where nobody came
+-- a place where nobody came, and which was not looked at yet
 abbrev pub nobody : Talk
 nobody = record {
   is_open = false;
@@ -56,35 +62,36 @@ nobody = record {
   has_ended = false;
   is_over = false;
   is_dry = false;
-  is_moved = false;
+  is_blocked = false;
+  is_moved = true;
   is_held = false;
   replies = 0;
 }
 
 -- an act at the place itself
 abbrev pub acted : Act → Talk → Talk
-acted Came t = record nobody { is_open = true; is_moved = true; replies = t.replies }
+acted Came t = record nobody { is_open = true; replies = t.replies }
+acted Missed t = record t { is_blocked = true }
 acted (Said bytes) t = record t { said = t.said ++ bytes; is_dry = false; is_moved = true }
 acted Dry t = record t { is_dry = true }
 acted Ended t = record t { has_ended = true; is_moved = true }
-acted (Took bytes) t = record t { took = t.took ++ bytes; is_moved = true }
-acted Waits t = t
+acted (Took bytes) t = record t { took = t.took ++ bytes; is_blocked = false; is_moved = true }
+acted Waits t = record t { is_blocked = true }
 acted Failed t = record t { is_open = false; is_moved = true }
 acted Left t = record t { is_open = false; is_moved = true }
 acted Held t = record t { is_held = true }
-acted (Answered turn is_over) t = record t { turns = t.turns ++ turn ∷ []; is_over = is_over; is_moved = true; replies = t.replies + 1 }
-acted (Refused broken) t = record t { refused = Some broken; is_moved = true }
+acted (Answered turn is_over) t = record t { turns = t.turns ++ turn ∷ []; is_over = is_over; is_blocked = false; is_moved = true; replies = t.replies + 1 }
+acted (Refused broken) t = record t { refused = Some broken; is_blocked = false; is_moved = true }
 
--- since a look nothing moved yet, and nobody was held
+-- after a look nothing was tried yet: what was found before it has to be found again
 abbrev pub looked : Talk → Talk
-looked t = record t { is_moved = false; is_held = false; replies = 0 }
+looked t = record t { is_dry = false; is_blocked = false; is_moved = false; is_held = false; replies = 0 }
 
 -- the connection that came last to a place
 abbrev pub talk : ℕ → List Step → Talk
 talk place [] = nobody
 talk place (At other act ∷ earlier) = if nat_eq other place then acted act (talk place earlier) else talk place earlier
-talk place (Missed ∷ earlier) = talk place earlier
-talk place (Looked is_busy ∷ earlier) = looked (talk place earlier)
+talk place (Looked is_busy may_come ∷ earlier) = looked (talk place earlier)
 
 -- the bytes of a refusal, where there is one
 abbrev pub refusal : Option Broken → List ℕ
@@ -95,10 +102,15 @@ refusal (Some broken) = failure_of broken
 abbrev pub owed : Talk → List ℕ
 owed t = spelled_turns t.turns ++ refusal t.refused
 
+-- something of that wasn't taken
+abbrev pub IsOwing : Talk → Type 0
+IsOwing t = (left : List ℕ) × (0 < length left) × (owed t ≡ t.took ++ left)
+
 -- ---- what each act has to fit
 
--- its messages are those of what it said, another may follow, and these bytes stand behind them
+-- it is there, its messages are those of what it said, another may follow, and these bytes stand behind them
 pub record GoesOn (t : Talk) (rest : List ℕ) : Type 0 where
+  pub is_there : t.is_open ≡ true
   pub reads : Reads t.said t.turns rest
   pub going : GoOn t.turns
   pub below : length t.turns < 1000
@@ -147,14 +159,15 @@ IsDone t =
     ⊎ ((GoesOn t [] × (t.has_ended ≡ true))
     ⊎ (EndWithLast t.turns ⊎ ((t.is_over ≡ true) ⊎ (length t.turns ≡ 1000))))
 
--- bytes go to it that stand next in what is owed to it; it is read from where a message is awaited; and it is ended where it is done and has everything
+-- bytes go to it that stand next in what is owed to it; it is read from where a message is awaited, and written to where something is owed; and it is ended where it is done and has everything. What moves is at least one byte.
 abbrev pub Fits : Act → Talk → Type 0
 Fits Came t = t.is_open ≡ false
-Fits (Said bytes) t = Awaits t
-Fits Dry t = ⊤
+Fits Missed t = t.is_open ≡ false
+Fits (Said bytes) t = (0 < length bytes) × Awaits t
+Fits Dry t = Awaits t
 Fits Ended t = Awaits t
-Fits (Took bytes) t = (left : List ℕ) × (owed t ≡ t.took ++ (bytes ++ left))
-Fits Waits t = ⊤
+Fits (Took bytes) t = (0 < length bytes) × ((left : List ℕ) × (owed t ≡ t.took ++ (bytes ++ left)))
+Fits Waits t = (t.is_open ≡ false) ⊎ IsOwing t
 Fits Failed t = t.is_open ≡ true
 Fits Left t = IsDone t × (owed t ≡ t.took)
 Fits Held t = AsksForListing t
@@ -163,19 +176,21 @@ Fits (Refused broken) t = IsBroken t broken
 
 -- ---- looks
 
--- something is owed to it that it doesn't take yet
-pub record IsOwing (t : Talk) : Type 0 where
-  pub left : List ℕ
-  pub some : 0 < length left
-  pub owes : owed t ≡ t.took ++ left
+-- nobody is there; and since the last look nobody took the place, or no more are to come
+abbrev pub IsVacant : Bool → Talk → Type 0
+IsVacant may_come t = (t.is_open ≡ false) × ((may_come ≡ false) ⊎ (t.is_blocked ≡ true))
 
--- there is nothing to do for it: it is closed, or doesn't take what is owed to it, or has no whole message there and has said no more, or is held
-abbrev pub IsQuiet : Talk → Type 0
-IsQuiet t = (t.is_open ≡ false) ⊎ (IsOwing t ⊎ ((Awaits t × (t.is_dry ≡ true)) ⊎ (t.is_held ≡ true)))
+-- somebody is there; and since the last look it took nothing of what is owed to it when that was written, or said no more of its next message when it was read from, or was held
+abbrev pub IsIdle : Talk → Type 0
+IsIdle t = (t.is_open ≡ true) × ((IsOwing t × (t.is_blocked ≡ true)) ⊎ ((Awaits t × (t.is_dry ≡ true)) ⊎ (t.is_held ≡ true)))
+
+-- there is nothing to do
+abbrev pub IsQuiet : Bool → Talk → Type 0
+IsQuiet may_come t = IsVacant may_come t ⊎ IsIdle t
 
 -- before a busy look something moved there since the last one, or there is nothing to do; before the server waits there is nothing to do
-abbrev pub IsAttended : Bool → Talk → Type 0
-IsAttended is_busy t = ((is_busy ≡ true) × (t.is_moved ≡ true)) ⊎ IsQuiet t
+abbrev pub IsAttended : Bool → Bool → Talk → Type 0
+IsAttended is_busy may_come t = ((is_busy ≡ true) × (t.is_moved ≡ true)) ⊎ IsQuiet may_come t
 
 -- ---- room
 
@@ -214,12 +229,19 @@ HasRoom act place earlier = ⊤
 
 -- ---- a history
 
--- each step fits what came before; there are 64 places
-abbrev pub IsRight : List Step → Type 0
-IsRight [] = ⊤
-IsRight (At place act ∷ earlier) = IsRight earlier × (place < 64) × Fits act (talk place earlier) × HasRoom act place earlier
-IsRight (Missed ∷ earlier) = IsRight earlier
-IsRight (Looked is_busy ∷ earlier) = IsRight earlier × ((place : ℕ) → place < 64 → IsAttended is_busy (talk place earlier))
+-- how many connections came, with those that couldn't be accepted
+abbrev pub comings : List Step → ℕ
+comings [] = 0
+comings (At place Came ∷ earlier) = comings earlier + 1
+comings (At place Missed ∷ earlier) = comings earlier + 1
+comings (step ∷ earlier) = comings earlier
+
+-- each step fits what came before; there are 64 places, and so many connections are to come in all
+abbrev pub IsRight : ℕ → List Step → Type 0
+IsRight count [] = ⊤
+IsRight count (At place act ∷ earlier) = IsRight count earlier × (place < 64) × Fits act (talk place earlier) × HasRoom act place earlier
+IsRight count (Looked is_busy may_come ∷ earlier) =
+    IsRight count earlier × (may_come ≡ nat_lt (comings earlier) count) × ((place : ℕ) → place < 64 → IsAttended is_busy may_come (talk place earlier))
 
 -- ---- all connections
 
@@ -229,17 +251,10 @@ turns_of [] = []
 turns_of (At place (Answered turn is_over) ∷ earlier) = turns_of earlier ++ turn ∷ []
 turns_of (step ∷ earlier) = turns_of earlier
 
--- how many connections came, with those that couldn't be accepted
-abbrev pub comings : List Step → ℕ
-comings [] = 0
-comings (At place Came ∷ earlier) = comings earlier + 1
-comings (Missed ∷ earlier) = comings earlier + 1
-comings (step ∷ earlier) = comings earlier
-
 -- how often it looked
 abbrev pub looks : List Step → ℕ
 looks [] = 0
-looks (Looked is_busy ∷ earlier) = looks earlier + 1
+looks (Looked is_busy may_come ∷ earlier) = looks earlier + 1
 looks (step ∷ earlier) = looks earlier
 
 -- each message is answered from the state that the one before it left

@@ -18,4 +18,4 @@ pub record IsItsOwn (t : Talk) : Type 0 where
 
 -- at each moment of a history whose steps fit, that is so of each place, whatever happened at the others
 abbrev pub EachItsOwn : Type 0
-EachItsOwn = (history : List Step) (place : ℕ) → IsRight history → IsItsOwn (talk place history)
+EachItsOwn = (count : ℕ) (history : List Step) (place : ℕ) → IsRight count history → IsItsOwn (talk place history)

@@ -7,4 +7,6 @@ pub mod Lists
 pub mod Many
 pub mod Patience
 pub mod Peers
+pub mod Seat
 pub mod Sendfax
+pub mod Sockets

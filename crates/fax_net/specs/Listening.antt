@@ -34,7 +34,7 @@ module _ {W : Type 0} (contents : W → Option (List ℕ)) (out out₂ : Watched
       pub last : Sockets
       pub history : List Step
       pub happens : Happens did start history last
-      pub right : IsRight history
+      pub right : IsRight count history
       pub turns_are : turns ≡ turns_of history
       pub over : IsOverAtLast history shut
       pub within : comings history ≤ count

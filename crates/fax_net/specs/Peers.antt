@@ -1,14 +1,14 @@
 -- What the calls on connections tell, by their results.
-use Rattle.std.specs.Prelude.{ℕ, ◌≤◌, Bool, true, false, List, take, ⊤}
+use Rattle.std.specs.Prelude.{ℕ, ◌<◌, ◌≤◌, Bool, true, false, List, take, ⊤}
 use Rattle.fax_net.specs.declared.peers.Coming.{Coming}
 use Rattle.fax_net.specs.declared.peers.Coming.TheVariants.{One, Missed as MissedOne, Nobody}
 use Rattle.fax_net.specs.declared.peers.Moved.{Moved}
 use Rattle.fax_net.specs.declared.peers.Moved.TheVariants.{Bytes, Nothing, End, Failed as HasFailed}
 use Rattle.fax_net.specs.History.{Step, At, Missed, Came, Said, Dry, Ended, Held, Took, Waits, Failed}
 
--- no more bytes are moved than there are
+-- bytes are moved, and no more than there are
 abbrev pub IsWithin : Moved → ℕ → Type 0
-IsWithin (Bytes count) size = count ≤ size
+IsWithin (Bytes count) size = (0 < count) × (count ≤ size)
 IsWithin Nothing size = ⊤
 IsWithin End size = ⊤
 IsWithin HasFailed size = ⊤
@@ -16,7 +16,7 @@ IsWithin HasFailed size = ⊤
 -- a place was asked for
 abbrev pub step_of_coming : ℕ → Coming → Step
 step_of_coming place One = At place Came
-step_of_coming place MissedOne = Missed
+step_of_coming place MissedOne = At place Missed
 step_of_coming place Nobody = At place Waits
 
 -- a read that has these bytes in front

@@ -1,9 +1,9 @@
 //! One connection of many: what is done for it at its turn, none of which waits for its peer.
-ghost use Rattle.std.specs.Prelude.{◌≡◌, ◌&&◌, nat_le, true, false};
+ghost use Rattle.std.specs.Prelude.{◌≡◌, ◌&&◌, nat_le, nat_lt, true, false};
 ghost use Rattle.fax_net.specs.History.{IsAttended, room, untaken};
 ghost use Rattle.fax_net.specs.Link.{HasAnswered, is_done, is_taken};
-ghost use Rattle.fax_net.specs.Deeds.{Admits, Does, HoldsUp, TakesIn};
-ghost use Rattle.fax_net.specs.Many.{Moves};
+ghost use Rattle.fax_net.specs.Deeds.{Admits, Does, HoldsUp, TakesIn, Writes};
+ghost use Rattle.fax_net.specs.Many.{IsSettled, Moves};
 
 use crate::link::{Link, Stage, stage_behind};
 use crate::peers::{Coming, Moved, Peers};
@@ -22,7 +22,7 @@ pub(crate) fn serve_place<P: Peers, H: Handler>(
 ) -> bool
     requires { H.over handler.old ≡ false }
     ensures { Moves P.did H.answers H.over place peers.old peers.new handler.old handler.new link.old link.new left.old left.new
-        (λ earlier. is_full ≡ (is_taken link.old.stage && nat_le room (untaken earlier))) result (IsAttended result) }
+        (λ earlier. is_full ≡ (is_taken link.old.stage && nat_le room (untaken earlier))) result (IsAttended result (nat_lt 0 left.new)) }
 {
     if link.is_free() {
         admit(peers, place, link, left)
@@ -64,9 +64,10 @@ fn converse<P: Peers, H: Handler>(
     handler: &mut H,
     piece: &mut [u8],
 ) -> bool
-    requires { H.over handler.old ≡ false }
+    requires on { H.over handler.old ≡ false }
+    requires taken { ¬ (link.old.stage ≡ Stage.Free) }
     ensures { Moves P.did H.answers H.over place peers.old peers.new handler.old handler.new link.old link.new 0 0
-        (λ earlier. is_full ≡ nat_le room (untaken earlier)) result (IsAttended result) }
+        (λ earlier. is_full ≡ nat_le room (untaken earlier)) result (IsSettled result) }
 {
     let came = take_in(peers, place, link, piece);
     let answered = answer(link, is_full, handler);
@@ -123,7 +124,7 @@ fn hold<P: Peers>(peers: &mut P, place: usize, link: &mut Link, is_full: bool) -
 
 /// Writes once of what is owed.
 fn write<P: Peers>(peers: &mut P, place: usize, link: &mut Link) -> bool
-    ensures does { Does P.did place peers.old peers.new link.old link.new result }
+    ensures does { Writes P.did place peers.old peers.new link.old link.new result }
     ensures still { result ≡ false → link.new ≡ link.old }
 {
     if !link.is_owing() {

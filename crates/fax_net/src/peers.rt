@@ -3,7 +3,7 @@
 /// What came of a read or a write.
 #[derive(Clone, Copy, Debug, PartialEq, Eq)]
 pub enum Moved {
-    /// So many bytes were moved.
+    /// So many bytes were moved, at least one.
     Bytes(usize),
     /// None yet.
     Nothing,
@@ -26,16 +26,17 @@ pub enum Coming {
 
 /// Connections by their places. No call but `look` waits.
 pub trait Peers {
-    ghost use Rattle.std.specs.Prelude.{◌++◌, length};
+    ghost use Rattle.std.specs.Prelude.{◌++◌, ◌<◌, length};
     ghost use Rattle.fax_net.specs.History.{Step, Looked, At, Left};
     ghost use Rattle.fax_net.specs.Peers.{IsWithin, step_of_coming, step_of_hold, step_of_read, step_of_write};
 
     // What may happen, and the connections after it.
     ghost did: { Self → Step → Self → Type 0 };
 
-    /// Looks which connections are ready. Where nothing is to be done, it waits until one is.
+    /// Looks which connections are ready. Where nothing is to be done, it waits until one is. Where more connections are to
+    /// come, it is admitting.
     fn look(&mut self, is_busy: bool, is_admitting: bool)
-        ensures { did self.old (Looked is_busy) self.new };
+        ensures { did self.old (Looked is_busy is_admitting) self.new };
 
     /// Gives the place, which is free, to a connection that waits to be accepted.
     fn admit(&mut self, place: usize) -> Coming
@@ -46,8 +47,9 @@ pub trait Peers {
         ensures within { IsWithin result (length room.new) }
         ensures step { did self.old (step_of_read place room.new result) self.new };
 
-    /// Writes once of the front and of what stands behind it.
+    /// Writes once of the front and of what follows it. One of them isn't empty.
     fn write(&mut self, place: usize, front: &[u8], back: &[u8]) -> Moved
+        requires { 0 < length (front.now ++ back.now) }
         ensures within { IsWithin result (length (front.now ++ back.now)) }
         ensures step { did self.old (step_of_write place (front.now ++ back.now) result) self.new };
 

@@ -1,9 +1,9 @@
 //! One connection's socket, which never waits, and how long its peer may go on.
 ghost use Rattle.std.specs.Duration.{as_nanos};
-ghost use Rattle.std.specs.Prelude.{◌≡◌, ◌≤◌, ◌↔◌, ◌⊎◌, ◌++◌, ◌-◌, false, length, IsTrue};
-ghost use Rattle.std.specs.Time.{instant_nanos};
+ghost use Rattle.std.specs.Prelude.{◌≡◌, ◌↔◌, ◌⊎◌, ◌++◌, false, true, length, IsTrue};
 ghost use Rattle.fax_net.specs.Patience.{left};
 ghost use Rattle.fax_net.specs.Peers.{IsWithin};
+ghost use Rattle.fax_net.specs.Seat.{HasTried, IsLate, IsNew, IsOver, IsReady, Leaves, Stays, silence, taken};
 
 use crate::patience::Patience;
 use crate::peers::Moved;
@@ -39,7 +39,10 @@ pub(crate) struct Seat {
 }
 
 impl Seat {
-    pub(crate) fn new(stream: TcpStream, patience: Patience, now: Instant) -> Seat {
+    /// A connection that came just now.
+    pub(crate) fn new(stream: TcpStream, patience: Patience, now: Instant) -> Seat
+        ensures { IsNew result patience now }
+    {
         Seat {
             stream,
             patience,
@@ -55,8 +58,7 @@ impl Seat {
 
     /// How long it may go on without moving anything.
     pub(crate) fn time_left(&self, now: Instant) -> Duration
-        ensures { as_nanos result ≡ left self.now.patience (instant_nanos now - instant_nanos self.now.moved)
-            (instant_nanos now - instant_nanos self.now.begun) }
+        ensures { as_nanos result ≡ left self.now.patience (silence self.now now) (taken self.now now) }
     {
         let taken = now.saturating_duration_since(self.begun);
         self.patience.left(self.silence(now), taken)
@@ -64,23 +66,21 @@ impl Seat {
 
     /// How long nothing has moved.
     pub(crate) fn silence(&self, now: Instant) -> Duration
-        ensures { as_nanos result ≡ instant_nanos now - instant_nanos self.now.moved }
+        ensures { as_nanos result ≡ silence self.now now }
     {
         now.saturating_duration_since(self.moved)
     }
 
     /// Whether its time is over, or its place is wanted.
     pub(crate) fn is_late(&self, now: Instant) -> bool
-        ensures { IsTrue result ↔ ((IsTrue self.now.is_sent_away) ⊎ (left self.now.patience
-            (instant_nanos now - instant_nanos self.now.moved) (instant_nanos now - instant_nanos self.now.begun) ≡ 0)) }
+        ensures { IsTrue result ↔ (IsLate self.now now) }
     {
         self.is_sent_away || self.time_left(now).is_zero()
     }
 
     /// Whether the time of the whole connection is over.
     fn is_over(&self, now: Instant) -> bool
-        ensures { IsTrue result ↔ ((IsTrue self.now.is_sent_away) ⊎ (as_nanos self.now.patience.whole
-            - (instant_nanos now - instant_nanos self.now.begun) ≡ 0)) }
+        ensures { IsTrue result ↔ (IsOver self.now now) }
     {
         let taken = now.saturating_duration_since(self.begun);
         self.is_sent_away || self.patience.is_over(taken)
@@ -94,13 +94,15 @@ impl Seat {
     }
 
     /// Has it leave.
-    pub(crate) fn send_away(&mut self) {
+    pub(crate) fn send_away(&mut self)
+        ensures { self.new ≡ record self.old { is_sent_away = true } }
+    {
         self.is_sent_away = true;
     }
 
-    /// What a read or a write that moves nothing yet comes to.
+    /// What a read or a write that moves nothing yet results in.
     fn stay(&self, now: Instant) -> Moved
-        ensures { IsWithin result 0 }
+        ensures { Stays self.now now result }
     {
         if self.is_late(now) {
             Moved::Failed
@@ -111,7 +113,10 @@ impl Seat {
 
     /// Reads once, where there is something to read.
     pub(crate) fn read(&mut self, room: &mut [u8], now: Instant) -> Moved
-        ensures { IsWithin result (length room.new) }
+        ensures within { IsWithin result (length room.new) }
+        ensures tried { HasTried self.old self.new now result }
+        ensures reads { IsReady result self.new.may_read }
+        ensures writes { self.new.may_write ≡ self.old.may_write }
     {
         if self.is_over(now) {
             return Moved::Failed;
@@ -139,7 +144,10 @@ impl Seat {
 
     /// Writes once, where the system takes something.
     pub(crate) fn write(&mut self, front: &[u8], back: &[u8], now: Instant) -> Moved
-        ensures { IsWithin result (length (front.now ++ back.now)) }
+        ensures within { IsWithin result (length (front.now ++ back.now)) }
+        ensures tried { HasTried self.old self.new now result }
+        ensures writes { IsReady result self.new.may_write }
+        ensures reads { self.new.may_read ≡ self.old.may_read }
     {
         if self.is_over(now) {
             return Moved::Failed;
@@ -167,9 +175,8 @@ impl Seat {
     /// Holds the connection, which isn't the peer's fault: only the time of the whole connection counts. Returns whether
     /// that isn't over.
     pub(crate) fn hold(&mut self, now: Instant) -> bool
-        ensures moved { self.new.moved ≡ now }
-        ensures stays { (result ≡ false) ↔ ((IsTrue self.old.is_sent_away) ⊎ (as_nanos self.old.patience.whole
-            - (instant_nanos now - instant_nanos self.old.begun) ≡ 0)) }
+        ensures moved { self.new ≡ record self.old { moved = now } }
+        ensures stays { (result ≡ false) ↔ (IsOver self.old now) }
     {
         self.moved = now;
         !self.is_over(now)
@@ -177,7 +184,9 @@ impl Seat {
 
     /// Says that nothing more is written, and gives whether the peer is to be waited for. Where bytes were left unread, the
     /// system might drop a reply that the peer hasn't read yet (RFC 9112, section 9.6).
-    pub(crate) fn leave(&mut self, now: Instant) -> bool {
+    pub(crate) fn leave(&mut self, now: Instant) -> bool
+        ensures { Leaves self.old self.new now result }
+    {
         if self.has_ended || self.stream.shutdown(Shutdown::Write).is_err() {
             return false;
         }
@@ -189,7 +198,9 @@ impl Seat {
     }
 
     /// Drops what comes from a peer that is leaving, and gives whether it is to be waited for longer.
-    pub(crate) fn drain(&mut self, now: Instant) -> bool {
+    pub(crate) fn drain(&mut self, now: Instant) -> bool
+        ensures { result ≡ true → ¬ IsLate self.new now }
+    {
         let mut piece = [0; LEAVE_PIECE];
         for _ in 0..LEAVE_READS {
             match self.read(&mut piece, now) {

@@ -1,7 +1,9 @@
 //! The sockets of a server: where connections come from, which of them are ready, and who has to leave.
 
-ghost use Rattle.std.specs.Prelude.{IfOk};
+ghost use Rattle.std.specs.Prelude.{◌≡◌, ◌++◌, false, length, IfOk};
 ghost use Rattle.fax_net.specs.Patience.{IsFor};
+ghost use Rattle.fax_net.specs.Peers.{IsWithin};
+ghost use Rattle.fax_net.specs.Sockets.{IsFree};
 
 use crate::many::PLACES;
 use crate::patience::{Patience, shorter};
@@ -119,7 +121,9 @@ impl<'r> Sockets<'r> {
     }
 
     /// The machine's clock, or its last answer where that can't be read.
-    fn read_clock(&mut self) -> Instant {
+    fn read_clock(&mut self) -> Instant
+        ensures { self.new ≡ record self.old { now = result } }
+    {
         if let Ok(now) = Instant::now(self.rt) {
             self.now = now;
         }
@@ -147,7 +151,9 @@ impl<'r> Sockets<'r> {
     }
 
     /// Ends the connection at a place.
-    fn free(&mut self, place: usize) {
+    fn free(&mut self, place: usize)
+        ensures { IsFree self.new.seats.items place }
+    {
         if let Some(seat) = self.seats.get_mut(place) {
             *seat = None;
         }
@@ -373,7 +379,10 @@ impl Peers for Sockets<'_> {
         }
     }
 
-    fn read(&mut self, place: usize, room: &mut [u8]) -> Moved {
+    fn read(&mut self, place: usize, room: &mut [u8]) -> Moved
+        ensures within { IsWithin result (length room.new) }
+        ensures freed { result ≡ Moved.Failed → IsFree self.new.seats.items place }
+    {
         let now = self.read_clock();
         let moved = match self.seats.get_mut(place) {
             Some(Some(seat)) => seat.read(room, now),
@@ -385,7 +394,10 @@ impl Peers for Sockets<'_> {
         moved
     }
 
-    fn write(&mut self, place: usize, front: &[u8], back: &[u8]) -> Moved {
+    fn write(&mut self, place: usize, front: &[u8], back: &[u8]) -> Moved
+        ensures within { IsWithin result (length (front.now ++ back.now)) }
+        ensures freed { result ≡ Moved.Failed → IsFree self.new.seats.items place }
+    {
         let now = self.read_clock();
         let moved = match self.seats.get_mut(place) {
             Some(Some(seat)) => seat.write(front, back, now),
@@ -397,7 +409,11 @@ impl Peers for Sockets<'_> {
         moved
     }
 
-    fn hold(&mut self, place: usize) -> bool {
+    // That a connection is held as long as its time isn't over is `Seat::hold`'s clause. That its answer is passed on is
+    // tried by `checks/run heavy-jobs`.
+    fn hold(&mut self, place: usize) -> bool
+        ensures { result ≡ false → IsFree self.new.seats.items place }
+    {
         let now = self.read_clock();
         let stays = match self.seats.get_mut(place) {
             Some(Some(seat)) => seat.hold(now),
