@@ -1,17 +1,47 @@
 -- Why a body of JSON is refused.
-use Rattle.std.proofs.Common.{◌≡◌, ℕ, Bool, true, false, cond, List, sym, subst, inl, inr}
-use Rattle.std.specs.Prelude.{Option, Ok, Err}
-use Rattle.fax_value.specs.declared.text_fault.TextFault.TheVariants.{Bad}
+use Rattle.std.proofs.Common.{◌≡◌, arith, eqb, ℕ, ◌≤◌, ◌&&◌, true, false, not, List, [], ◌∷◌, length, refl, sym, ap, subst, inl, inr}
+use Rattle.std.proofs.lemmas.Bool.{and_from, and_parts, leb-true, ne_eqb, not-true}
+use Rattle.std.specs.List.{list_all}
+use Rattle.std.specs.Prelude.{Option, nat_le}
+use Rattle.fax_value.specs.Blank.{begins_with_blank}
+use Rattle.fax_value.specs.Value.{IsStatus, ends_with_backslash, is_status_byte}
 use Rattle.serde_json.specs.Data.{Data}
 use Rattle.fax_job.specs.declared.refusal.Refusal.{Refusal}
-use Rattle.fax_ask.specs.Report.{IsJsonRefusal, IsReportRefusal}
+use Rattle.fax_ask.specs.Report.{IsJsonRefusal, IsReportRefusal, begins_with_space, is_reason, is_reason_byte}
 
 -- what refuses a body as JSON refuses it as a report
 pub json_refused : {T : Type 0} (report_in : Data → Option T) (body : List ℕ) (refusal : Refusal) → IsJsonRefusal body refusal → IsReportRefusal report_in body refusal
 json_refused report_in body refusal (inl h) = subst (λ (r : Refusal). IsReportRefusal report_in body r) (sym h.0) h.1
 json_refused report_in body refusal (inr e) = subst (λ (r : Refusal). IsReportRefusal report_in body r) (sym e) tt
 
--- a status that was read is the text
-pub status_is : (text status : List ℕ) (formed : Bool) → cond formed (Ok text) (Err Bad) ≡ Ok status → status ≡ text
-status_is text status true e = cc
-status_is text status false e = absurd cc
+-- a byte that a reason may have is one that a status may have
+status_byte : (byte : ℕ) → is_reason_byte byte ≡ true → is_status_byte byte ≡ true
+status_byte byte is = rw is refl
+
+-- so all of a reason are
+status_bytes : (text : List ℕ) → list_all is_reason_byte text ≡ true → list_all is_status_byte text ≡ true
+status_bytes [] all = refl
+status_bytes (byte ∷ bytes) all =
+    let parts = and_parts (is_reason_byte byte) (list_all is_reason_byte bytes) all in
+    and_from (is_status_byte byte) (list_all is_status_byte bytes) (status_byte byte parts.0) (status_bytes bytes parts.1)
+
+-- it begins with no blank
+no_blank : (text : List ℕ) → begins_with_space text ≡ false → list_all is_reason_byte text ≡ true → begins_with_blank text ≡ false
+no_blank [] begins all = refl
+no_blank (byte ∷ bytes) begins all =
+    let first = (and_parts (is_reason_byte byte) (list_all is_reason_byte bytes) all).0 in
+    let least : 32 ≤ byte = leb-true 32 byte (and_parts (nat_le 32 byte) (not (eqb byte 127)) first).0 in
+    rw (begins, ne_eqb byte 9 (λ is. omega (arith, least, is))) refl
+
+-- so a reason is a status
+pub reason_is_status : (text : List ℕ) → is_reason text ≡ true → IsStatus text
+reason_is_status text is =
+    let short = nat_le (length text) 200 in
+    let first = not (begins_with_space text) in
+    let last = not (ends_with_backslash text) in
+    let bytes = and_parts (short && first && last) (list_all is_reason_byte text) is in
+    let ends = and_parts (short && first) last bytes.0 in
+    let begins = not-true (begins_with_space text) (and_parts short first ends.0).1 in
+    and_from (not (begins_with_blank text) && last) (list_all is_status_byte text)
+    (and_from (not (begins_with_blank text)) last (ap not (no_blank text begins bytes.1)) ends.1)
+    (status_bytes text bytes.1)

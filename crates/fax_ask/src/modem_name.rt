@@ -5,7 +5,7 @@ ghost use Rattle.fax_value.specs.Name.{IsName, is_name};
 ghost use Rattle.fax_job.specs.declared.refusal.Refusal.TheVariants.{Unavailable};
 ghost use Rattle.std.specs.Prelude.{IfErr};
 
-use fax_job::{Name, Refusal, is_name};
+use fax_job::{Name, Refusal, TextFault, is_name};
 use std::alloc::Global;
 use std::marker::Model;
 
@@ -19,6 +19,8 @@ impl<'a> Model for ModemName<'a> {
     ghost Value = { List ℕ };
 
     ghost view = { λ name. name.text.now };
+
+    ghost invariant = { λ name. IsName name.text.now };
 }
 
 impl<'a> ModemName<'a> {
@@ -40,8 +42,11 @@ impl<'a> ModemName<'a> {
     {
         match Name::read(alloc, self.text) {
             Ok(name) => Ok(name),
-            // The text is a name, so only memory is wanting.
-            Err(_) => Err(Refusal::Unavailable),
+            Err(fault) => {
+                // The text is a name.
+                prove!(matches!(fault, TextFault::NoMemory));
+                Err(Refusal::Unavailable)
+            }
         }
     }
 }

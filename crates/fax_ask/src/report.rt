@@ -1,6 +1,7 @@
 //! What workers report, and what a client gives up, from the JSON (RFC 8259) of a body.
 
-ghost use Rattle.std.specs.Prelude.{◌≡◌, ◌≤◌, IfOk, IfErr};
+ghost use Rattle.std.specs.Prelude.{◌≡◌, ◌≤◌, IfOk, IfErr, IfSome};
+ghost use Rattle.fax_value.specs.Value.{IsStatus};
 ghost use Rattle.std.specs.List.{list_all};
 ghost use Rattle.std.specs.Option.{option_copied, option_map};
 ghost use Rattle.fax_ask.specs.Report.{IsJson, IsJsonRefusal, IsReportRefusal, Reports, begins_with_space, bool_at, call_in, call_named, ending_named, is_reason, is_reason_byte, number_at, outcome_in, outcome_read, page_in, reason_at, reason_of, report_in, text_at, upto_in, within};
@@ -14,7 +15,7 @@ use fax_core::{Ending, Outcome, Report};
 use fax_job::limits::MOST_PAGES;
 use fax_job::{BodyFault, Call, Refusal, RequestNumber, Status, ends_with_backslash};
 use serde_json::{Error, Value};
-use std::alloc::Global;
+use std::alloc::{AllocError, Global};
 
 /// An outcome whose reason still stands in its JSON.
 #[derive(Clone, Copy)]
@@ -59,21 +60,18 @@ pub(crate) fn read_upto(alloc: Global, body: &[u8]) -> Result<RequestNumber, Ref
     }
 }
 
-/// The outcome with a reason of its own.
-fn keep_reason(alloc: Global, outcome: OutcomeText<'_>) -> Result<Outcome, Refusal>
-    ensures kept { IfOk result (λ kept. kept ≡ outcome_read outcome.entry) }
-    ensures refused { IfErr result (λ refusal. refusal ≡ Unavailable) }
+/// The outcome with a reason of its own. The only error is want of memory.
+fn keep_reason(alloc: Global, outcome: OutcomeText<'_>) -> Result<Outcome, AllocError>
+    requires { IsStatus outcome.reason.now }
+    ensures { IfOk result (λ kept. kept ≡ outcome_read outcome.entry) }
 {
-    match Status::read(alloc, outcome.reason) {
-        Ok(reason) => Ok(Outcome {
-            dialed: outcome.dialed,
-            pages: outcome.pages,
-            ending: outcome.ending,
-            reason,
-        }),
-        // A reason is a status, so only memory is wanting.
-        Err(_) => Err(Refusal::Unavailable),
-    }
+    let reason = Status::given(alloc, outcome.reason)?;
+    Ok(Outcome {
+        dialed: outcome.dialed,
+        pages: outcome.pages,
+        ending: outcome.ending,
+        reason,
+    })
 }
 
 fn read_json(alloc: Global, body: &[u8]) -> Result<Value, Refusal>
@@ -129,7 +127,8 @@ fn page_in(json: &Value) -> Option<u16>
 
 #[tactic(auto, unfolding(crate::specs::Report::outcome_in))]
 fn outcome_in(json: &Value) -> Option<OutcomeText<'_>>
-    ensures { option_map outcome_read result ≡ outcome_in (view json.now) }
+    ensures read { option_map outcome_read result ≡ outcome_in (view json.now) }
+    ensures status { IfSome result (λ outcome. IsStatus outcome.reason.now) }
 {
     let dialed = bool_at(json, "dialed")?;
     let pages = within(0, u64::from(MOST_PAGES), number_at(json, "pages")?)?;
@@ -165,7 +164,8 @@ fn ending_named(name: &str) -> Option<Ending>
 
 /// The reason that a member gives; the empty text where it is missing.
 fn reason_at(json: Option<&Value>) -> Option<&str>
-    ensures { option_copied result ≡ reason_at (option_map (λ j. view j.now) json.entry) }
+    ensures read { option_copied result ≡ reason_at (option_map (λ j. view j.now) json.entry) }
+    ensures status { IfSome result (λ reason. IsStatus reason.now) }
 {
     match json {
         Some(json) => reason_of(json.as_str()?),
@@ -173,8 +173,10 @@ fn reason_at(json: Option<&Value>) -> Option<&str>
     }
 }
 
+#[tactic(auto, using(crate::proofs::ReportLemmas::reason_is_status))]
 fn reason_of(text: &str) -> Option<&str>
-    ensures { option_copied result ≡ reason_of text.now }
+    ensures read { option_copied result ≡ reason_of text.now }
+    ensures status { IfSome result (λ reason. IsStatus reason.now) }
 {
     if is_reason(text.as_bytes()) {
         Some(text)
