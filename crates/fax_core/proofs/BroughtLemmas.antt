@@ -21,10 +21,10 @@ use Rattle.fax_core.proofs.PlaceLemmas.{absent, comes}
 use Rattle.fax_core.proofs.StepLemmas.{taken_same, aged_sound, step_sound, run_sound}
 
 -- the job that came in stands under the number that is told
-record Came (i : Import) (n : Queue) (number : ℕ) : Type 0 where
-  job : Job
-  there : IsJob n number job
-  npages : length job.sent ≡ i.npages
+pub record Came (i : Import) (n : Queue) (number : ℕ) : Type 0 where
+  pub job : Job
+  pub there : IsJob n number job
+  pub npages : length job.sent ≡ i.npages
 
 -- a new job with the next number is found by it
 new_there : (m : Queue) (j : Job) → Sound m → j.number ≡ m.next_job → IsJob (with_new_job j m) j.number j
@@ -50,7 +50,7 @@ came_by s m t rule i (Ok j) n number state h is e =
 came_by s m t rule i (Err x) n number state h is e = cc
 
 -- the same of a step, which ages the jobs first
-came : (s : Settings) (m n : Queue) (t : ℕ) (i : Import) (number state : ℕ) → Sound m → step s m t (Bring i) ≡ Taken n (Brought number state) → Came i n number
+pub came : (s : Settings) (m n : Queue) (t : ℕ) (i : Import) (number state : ℕ) → Sound m → step s m t (Bring i) ≡ Taken n (Brought number state) → Came i n number
 came s m n t i number state h e =
     let d = bring i (s.rule i.order.dial) m.next_job s.max_jobs t in
     came_by s (aged t m) t (s.rule i.order.dial) i d n number state (aged_sound t m h) (λ j is. bring_counts i (s.rule i.order.dial) m.next_job s.max_jobs t j is) e

@@ -3,12 +3,15 @@ use Rattle.std.specs.Prelude.{◌≡◌, ◌<◌, ◌≤◌, ℕ, ◌==◌, Bool
 use Rattle.std.specs.Str.{bytes_eq}
 use Rattle.sqlite_rules.specs.Lists.{Has}
 use Rattle.fax_value.specs.Limits.{last_grant}
+use Rattle.fax_ask.specs.Response.{refused_response}
 use Rattle.fax_job.specs.declared.job.JobFields.{JobFields}
+use Rattle.fax_job.specs.declared.refusal.Refusal.TheVariants.{ModemBusy}
 use Rattle.std.specs.Option.{option_map}
 use Rattle.fax_core.specs.Best.{may_go}
 use Rattle.fax_core.specs.Decisions.{granted}
 use Rattle.fax_core.specs.Job.{Job, job_of}
 use Rattle.fax_core.specs.Queue.{Queue}
+use Rattle.fax_core.specs.Reply.{Handed, HeldGrant}
 use Rattle.fax_core.specs.Settings.{Settings}
 use Rattle.fax_core.specs.State.{calls_to}
 use Rattle.fax_store.specs.Candidates.{AreAsked}
@@ -16,6 +19,8 @@ use Rattle.fax_store.specs.Job.{AreWaiting}
 use Rattle.fax_core.specs.declared.grants.Grant.{Grant}
 use Rattle.fax_store.specs.declared.candidates.Asked.{Asked}
 use Rattle.fax_decide.specs.State.{may_call}
+use Rattle.fax_decide.specs.declared.decision.Decision.{Decision}
+use Rattle.fax_decide.specs.declared.decision.Decision.TheVariants.{Refused}
 
 -- no call to this number may begin, where there is one
 abbrev pub IsBusy : Settings → Queue → ℕ → Option (List ℕ) → Type 0
@@ -40,6 +45,10 @@ IsFirstAsked s asked m modem found = (jobs : List Job) × AreAsked asked m jobs 
 -- a grant is open, of that job, and the modem's
 abbrev pub is_held_by : List ℕ → JobFields → Grant → Bool
 is_held_by modem job g = g.is_open && (g.job == job.job) && bytes_eq g.modem modem
+
+-- the modem is refused as busy, with a grant that it holds
+abbrev pub IsBusyModem : Decision → Type 0
+IsBusyModem decision = (called : Bool) × (held : Handed) × (decision ≡ Refused (refused_response ModemBusy (HeldGrant called held)))
 
 -- a new grant of the pages that a job has left, of which there is one, under a number within the limits
 pub record IsGrantOf (job : JobFields) (g : Grant) : Type 0 where

@@ -1,6 +1,6 @@
 //! Which job a modem is given: a modem asks for work.
 
-ghost use Rattle.std.specs.Prelude.{◌≡◌, ◌&&◌, ℕ, [], false, true, IsErr, IsTrue, OnOk, Ok, None, Some, is_some};
+ghost use Rattle.std.specs.Prelude.{◌≡◌, ◌&&◌, ℕ, List, [], false, true, IfOk, IsErr, IsTrue, OnOk, Ok, None, Some, is_some};
 ghost use Rattle.std.specs.List.{list_any};
 ghost use Rattle.std.specs.Option.{option_map};
 ghost use Rattle.std.specs.Str.{bytes_eq};
@@ -16,6 +16,7 @@ ghost use Rattle.fax_core.specs.Fits.{fits};
 ghost use Rattle.fax_core.specs.Machine.{dial_of, given, given_best, given_to, handed, held_by};
 ghost use Rattle.fax_core.specs.Queue.{Queue, job_numbered};
 ghost use Rattle.fax_core.specs.Reply.{HeldGrant};
+ghost use Rattle.fax_core.specs.Settings.{Settings};
 ghost use Rattle.fax_core.specs.Sound.{Sound};
 ghost use Rattle.fax_core.specs.State.{calls_to};
 ghost use Rattle.fax_core.specs.declared.grants.Grant.{Grant as OneGrant};
@@ -24,7 +25,7 @@ ghost use Rattle.fax_job.specs.declared.refusal.Refusal.TheVariants.{ModemBusy};
 ghost use Rattle.fax_tables.specs.Grant.{as_hold};
 ghost use Rattle.fax_store.specs.Candidates.{StandsAt};
 ghost use Rattle.fax_dest.specs.Setup.{admits};
-ghost use Rattle.fax_decide.specs.Choice.{AreBusy, IsBusy, IsFirst, IsFirstAsked, IsGrantOf, is_held_by, with_number};
+ghost use Rattle.fax_decide.specs.Choice.{AreBusy, IsBusy, IsBusyModem, IsFirst, IsFirstAsked, IsGrantOf, is_held_by, with_number};
 ghost use Rattle.fax_decide.specs.Decision.{Decides};
 ghost use Rattle.fax_decide.specs.Fault.{OrNoAnswer};
 ghost use Rattle.fax_decide.specs.Looking.{Consults};
@@ -74,16 +75,17 @@ pub(crate) fn decide_next<S: Alter>(
 }
 
 /// A modem that holds a grant gets no other, and is told which it holds. Where the grant or its job isn't there, as in
-/// no sound queue, nothing is decided.
+/// no sound queue, nothing is decided: whatever the rows say, no other refusal is.
 fn busy<S: Alter>(
     store: &mut Store<S>,
     alloc: Global,
     hold: Hold,
     modem: &Name,
 ) -> Result<Decision, Fault>
-    ensures { Consults S.Store store.old store.new result (λ m. (t : ℕ) (g : OneGrant) → Sound m
+    ensures found { Consults S.Store store.old store.new result (λ m. (t : ℕ) (g : OneGrant) → Sound m
         → held_by modem.now m ≡ Some g → hold ≡ as_hold g → OrNoAnswer result (λ decision. decision
         ≡ Decision.Refused (refused_response ModemBusy (HeldGrant (is_some g.call) (handed g (aged t m)))))) }
+    ensures misfit { IfOk result IsBusyModem }
 {
     let Some(grant) = store.grant(hold.grant)? else {
         return Err(Fault::Strange);
@@ -108,6 +110,7 @@ fn held(alloc: Global, grant: &Grant, job: &Job, modem: &Name) -> Result<Decisio
         → dial_of (job_numbered grant.now.job m) ≡ job.now.dial → OrNoAnswer result (λ decision. decision
         ≡ Decision.Refused (refused_response ModemBusy (HeldGrant (is_some grant.now.call) (handed grant.now m)))) }
     ensures misfit { is_held_by modem.now job.now grant.now ≡ false → IsErr result }
+    ensures busy { IfOk result IsBusyModem }
 {
     if !is_held(grant, job, modem) {
         return Err(Fault::Strange);
@@ -132,25 +135,22 @@ fn decide_free<S: Alter>(
         → OrNoAnswer result (Decides (given_best (settings_of office.now.setup office.now.controls) (aged t m) modem
         (best (settings_of office.now.setup office.now.controls) (aged t m) t modem)) m t)) }
 {
-    match best(store, office, alloc, &modem, t)? {
+    let number = first(store, office, alloc, &modem, t)?;
+    match best(store, number)? {
         Some(job) => give(office, alloc, job, modem, next_grant),
         None => take(Effect::Nothing, answered(alloc, &Answer::NoneToSend)),
     }
 }
 
-/// The best of the waiting jobs that may go to the modem at `t`, if one may.
-fn best<S: Alter>(
-    store: &mut Store<S>,
-    office: &Office,
-    alloc: Global,
-    modem: &Name,
-    t: Moment,
-) -> Result<Option<Job>, Fault>
-    ensures { Consults S.Store store.old store.new result (λ m. Sound m → OrNoAnswer result (λ found.
-        option_map (λ f. job_of f) found
-        ≡ best (settings_of office.now.setup office.now.controls) (aged t m) t modem.now)) }
+/// The best of the waiting jobs, which has the number of the first that may go; or none, where none may. Where the job
+/// isn't there, as in no sound queue, nothing is decided: whatever the rows say, a number has a job.
+fn best<S: Alter>(store: &mut Store<S>, number: Option<u32>) -> Result<Option<Job>, Fault>
+    ensures found { Consults S.Store store.old store.new result (λ m. (s : Settings) (t : ℕ) (modem : List ℕ)
+        → Sound m → IsFirst s m t modem number → OrNoAnswer result (λ found.
+        option_map (λ f. job_of f) found ≡ best s (aged t m) t modem)) }
+    ensures misfit { IfOk result (λ found. is_some found ≡ is_some number) }
 {
-    let Some(number) = first(store, office, alloc, modem, t)? else {
+    let Some(number) = number else {
         return Ok(None);
     };
     match store.job(number)? {

@@ -1,12 +1,12 @@
 -- Worked rows of turns: what a message says of its moment, and how one turn follows another.
 use Rattle.std.proofs.Common.{◌≡◌, refl, subst, sym, ℕ, List, [], ◌∷◌}
-use Rattle.std.specs.Prelude.{codes, None}
+use Rattle.std.specs.Prelude.{codes}
 use Rattle.httparse.specs.Grammar.{Field, RequestHead, crlf, trim_ows}
 use Rattle.fax_ask.specs.Response.{Response}
 use Rattle.fax_core.specs.Settings.{Settings}
 use Rattle.fax_http.specs.Conversation.{Turn}
 use Rattle.fax_run.specs.Run.{Start}
-use Rattle.fax_run.specs.Sessions.{IsSession, session_of}
+use Rattle.fax_run.specs.Sessions.{IsSession, Nothing, session_of}
 use Rattle.fax_run.specs.declared.arrival.Arrival.{Arrival}
 use Rattle.fax_desk.specs.Desk.{IsArrival}
 use Rattle.fax_desk.specs.Turns.{AreArrivals, AreTurns, IsTurn, TurnsAreASession, said_in}
@@ -45,7 +45,7 @@ module _ {C : Type 0} (gives : C → List ℕ → ℕ → C → Type 0) (s : Set
 
   -- one message is a session of its arrival, with its reply, that was not broken off
   session_row : TurnsAreASession gives → (start end : Start) (clock : C) (x : Turn) → AreTurns gives s start clock (x ∷ []) end
-      → (arrivals : List Arrival) × AreArrivals (x ∷ []) arrivals × IsSession start (session_of s arrivals (x.reply ∷ []) None) end
+      → (arrivals : List Arrival) × AreArrivals (x ∷ []) arrivals × IsSession start (session_of s arrivals (x.reply ∷ []) Nothing) end
   session_row law start end clock x turns = law s start end clock (x ∷ []) turns
 
 -- an arrival is that of its message

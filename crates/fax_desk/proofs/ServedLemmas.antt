@@ -13,7 +13,7 @@ use Rattle.fax_http.specs.Serving.{Answering, Answers}
 use Rattle.fax_once.proofs.HandledLemmas.{leads_by, run_sound, runs_on, stops_on}
 use Rattle.fax_once.proofs.SessionsLemmas.{runs_as_session}
 use Rattle.fax_run.specs.Run.{Start, end_of}
-use Rattle.fax_once.specs.Stop.{Before, Stops, StopsIn}
+use Rattle.fax_once.specs.Stop.{Before, StopsAnswered, StopsIn}
 use Rattle.fax_once.specs.Handled.{Handles}
 use Rattle.fax_run.specs.declared.arrival.Arrival.{Arrival}
 use Rattle.fax_store.specs.Store.{LeavesAlone, Means, Serves}
@@ -83,7 +83,7 @@ module _ {C : Type 0} (gives : C → List ℕ → ℕ → C → Type 0) (s : Set
         let comes = it.2 at.queue at.kept (run_sound s start arrivals replies (of old) sound done.0) done.0.means now in
         let a = comes.0 in
         let by = subst (λ o. Handles o a at.queue at.kept turn.reply (of next)) is comes.2 in
-        let stops = subst (λ o. Stops o a at.queue at.kept (of old) (of next)) is comes.3 in
+        let stops = subst (λ o. StopsAnswered o a at.queue at.kept turn.reply (of old) (of next)) is comes.3 in
         let on : StopsIn s start (arrivals ++ a ∷ []) (replies ++ turn.reply ∷ []) first (of next) = (
           runs_on s start arrivals replies a turn.reply (of old) (of next) done.0 by,
           stops_on s start arrivals replies a turn.reply (of old) (of next) done.0 first done.1 stops by (alone old turn next here),

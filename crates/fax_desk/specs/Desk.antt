@@ -8,7 +8,7 @@ use Rattle.fax_core.specs.Ledger.{Ledger}
 use Rattle.fax_core.specs.Queue.{Queue}
 use Rattle.fax_core.specs.Settings.{Settings}
 use Rattle.fax_core.specs.Sound.{Sound}
-use Rattle.fax_once.specs.Stop.{Stops}
+use Rattle.fax_once.specs.Stop.{StopsAnswered}
 use Rattle.fax_once.specs.Handled.{Handles}
 use Rattle.fax_run.specs.declared.arrival.Arrival.{Arrival}
 use Rattle.fax_store.specs.Store.{Means}
@@ -27,7 +27,7 @@ pub record IsArrival (head : RequestHead) (body : List ℕ) (moment : ℕ) (a : 
 abbrev pub HandlesAt : ℕ → Settings → State → RequestHead → List ℕ → Response → State → Type 0
 HandlesAt moment settings old head body reply new =
     (m : Queue) (k : Ledger) → Sound m → Means old m k → HasCleanDisk new
-    → (a : Arrival) × IsArrival head body moment a × Handles settings a m k reply new × Stops settings a m k old new
+    → (a : Arrival) × IsArrival head body moment a × Handles settings a m k reply new × StopsAnswered settings a m k reply old new
 
 -- the clock gives a moment for what the message says of it, and the arrival at that moment is handled
 abbrev pub IsHandled : (List ℕ → ℕ → Type 0) → Settings → State → RequestHead → List ℕ → Response → State → Type 0

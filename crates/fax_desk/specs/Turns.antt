@@ -1,5 +1,5 @@
 -- Messages that the queue answers one after the other, each at the moment that a clock gives. They are a session.
-use Rattle.std.specs.Prelude.{◌≡◌, ◌⊎◌, ℕ, List, [], ◌∷◌, map, None, codes}
+use Rattle.std.specs.Prelude.{◌≡◌, ◌⊎◌, ℕ, List, [], ◌∷◌, map, codes}
 use Rattle.std.specs.List.{AllZip}
 use Rattle.sqlite.specs.State.{State}
 use Rattle.fax_job.specs.declared.refusal.Refusal.TheVariants.{Unavailable}
@@ -11,7 +11,7 @@ use Rattle.fax_http.specs.Conversation.{Turn}
 use Rattle.fax_http.specs.Message.{fields_of, sole, values_of}
 use Rattle.fax_run.specs.Laws.{left_of}
 use Rattle.fax_run.specs.Run.{Start}
-use Rattle.fax_run.specs.Sessions.{IsSession, session_of}
+use Rattle.fax_run.specs.Sessions.{IsSession, Nothing, session_of}
 use Rattle.fax_once.specs.Ran.{RunsAsSession}
 use Rattle.fax_run.specs.Verdict.{Verdict, IsVerdict, reply_of}
 use Rattle.fax_run.specs.declared.arrival.Arrival.{Arrival}
@@ -48,7 +48,7 @@ replies_of turns = map (λ turn. turn.reply) turns
 -- such messages are a session: their arrivals, with their replies
 abbrev pub TurnsAreASession : {C : Type 0} → (C → List ℕ → ℕ → C → Type 0) → Type 0
 TurnsAreASession {C} gives = (settings : Settings) (start end : Start) (clock : C) (turns : List Turn) → AreTurns gives settings start clock turns end
-    → (arrivals : List Arrival) × AreArrivals turns arrivals × IsSession start (session_of settings arrivals (replies_of turns) None) end
+    → (arrivals : List Arrival) × AreArrivals turns arrivals × IsSession start (session_of settings arrivals (replies_of turns) Nothing) end
 
 -- The messages were answered from this start on, and are a session, also where it was broken off. The tables mean the sound queue that it leads to.
 pub record AreServed {C : Type 0} (gives : C → List ℕ → ℕ → C → Type 0) (settings : Settings) (start : Start) (clock : C) (turns : List Turn) (old new : State) : Type 0 where

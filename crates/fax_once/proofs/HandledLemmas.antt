@@ -18,7 +18,7 @@ use Rattle.fax_run.specs.Run.{Start, end_of, taken}
 use Rattle.fax_run.specs.Verdict.{Verdict, Told, Repeated, Accepted, IsVerdict, reply_of, verdict}
 use Rattle.fax_once.specs.Handled.{Handles, Leaves, IsSoundWith}
 use Rattle.fax_run.specs.declared.arrival.Arrival.{Arrival}
-use Rattle.fax_once.specs.Stop.{AreMadeBy, AtEnd, Before, Besides, IsLeftBehind, IsMadeIn, Stops, StopsIn}
+use Rattle.fax_once.specs.Stop.{AreMadeBy, AtEnd, Before, Besides, IsLeftBehind, IsMadeIn, StopsAnswered, StopsIn}
 use Rattle.fax_store.specs.Store.{LeavesAlone, MayFind, Means, RowsFound, Serves}
 use Rattle.fax_once.proofs.VerdictLemmas.{still_means}
 use Rattle.fax_core.specs.Ledger.{Ledger, entry}
@@ -116,7 +116,7 @@ module _ (s : Settings) (start : Start) (arrivals : List Arrival) (replies : Lis
   leads_by (inr (gone, left)) = inr (gone, refl)
 
   module _ (first : State) (before : (found : Trees) → MayFind old found → IsLeftBehind s start arrivals replies ran.heard first found)
-      (stops : Stops s a here.queue here.kept old new) (h : Handles s a here.queue here.kept reply new) where
+      (stops : StopsAnswered s a here.queue here.kept reply old new) (h : Handles s a here.queue here.kept reply new) where
     -- the run with this arrival
     abbrev on : HasRun s start (arrivals ++ a ∷ []) (replies ++ reply ∷ []) new
     on = runs_on h
@@ -137,7 +137,7 @@ module _ (s : Settings) (start : Start) (arrivals : List Arrival) (replies : Lis
           one = ap (λ (xs : List Arrival). xs ++ a ∷ []) it.one ∙ append_assoc it.before (it.arrival ∷ it.behind) (a ∷ []);
           told = it.told;
           more = it.more ++ reply ∷ [];
-          answers = ap (λ (xs : List Response). xs ++ reply ∷ []) it.answers ∙ append_assoc it.told it.more (reply ∷ []);
+          answers = ap (λ (xs : List Response). xs ++ reply ∷ []) it.answers ∙ append_assoc it.told (refused_response Unavailable NoKeys ∷ it.more) (reply ∷ []);
           later = more.0 ++ it.later;
           earlier = it.earlier;
           then = more.1 ∙ ap (λ (xs : List Reading). more.0 ++ xs) it.then ∙ sym (append_assoc more.0 it.later it.earlier);
@@ -149,9 +149,9 @@ module _ (s : Settings) (start : Start) (arrivals : List Arrival) (replies : Lis
         }
 
     -- and this one may have made what it makes
-    made_now : Stays → (found : Trees) (v : Verdict) → IsVerdict s a here.queue here.kept v → AreMadeBy v found
+    made_now : reply ≡ refused_response Unavailable NoKeys → Stays → (found : Trees) (v : Verdict) → IsVerdict s a here.queue here.kept v → AreMadeBy v found
         → IsMadeIn s start (arrivals ++ a ∷ []) (replies ++ reply ∷ []) on.heard found
-    made_now stays found v is made =
+    made_now failed stays found v is made =
         let more = heard_on h in
         record {
           before = arrivals;
@@ -159,8 +159,8 @@ module _ (s : Settings) (start : Start) (arrivals : List Arrival) (replies : Lis
           behind = [];
           one = refl;
           told = replies;
-          more = reply ∷ [];
-          answers = refl;
+          more = [];
+          answers = ap (λ (x : Response). replies ++ x ∷ []) failed;
           later = more.0;
           earlier = ran.heard;
           then = more.1;
@@ -172,7 +172,7 @@ module _ (s : Settings) (start : Start) (arrivals : List Arrival) (replies : Lis
         }
 
     -- so a shut store's crash leaves what a crash before left, or what this one made
-    shut_stops : (found : Trees) → new.is_open ≡ false → MayFind old found ⊎ ((v : Verdict) × IsVerdict s a here.queue here.kept v × AreMadeBy v found)
+    shut_stops : (found : Trees) → new.is_open ≡ false → MayFind old found ⊎ ((v : Verdict) × IsVerdict s a here.queue here.kept v × AreMadeBy v found × ((new.is_open ≡ true) ⊎ (reply ≡ refused_response Unavailable NoKeys)))
         → IsLeftBehind s start (arrivals ++ a ∷ []) (replies ++ reply ∷ []) on.heard first found
     shut_stops found shut (inl may) = by (before found may)
       where
@@ -184,7 +184,8 @@ module _ (s : Settings) (start : Start) (arrivals : List Arrival) (replies : Lis
         by (Before may_first none) = Before may_first (stays ∙ none)
         by (AtEnd rows) = AtEnd (subst (λ (e : Start). RowsFound found e.queue e.kept) (sym stays) rows)
         by (Besides it) = Besides (made_before stays found it)
-    shut_stops found shut (inr (v, is, made)) = Besides (made_now (same_end h shut) found v is made)
+    shut_stops found shut (inr (v, is, made, inl opened)) = absurd (true≢false (sym opened ∙ shut))
+    shut_stops found shut (inr (v, is, made, inr failed)) = Besides (made_now failed (same_end h shut) found v is made)
 
     -- what a crash leaves behind this arrival
     pub stops_on : (Serves new → LeavesAlone new new.committed.trees) → (found : Trees) → MayFind new found
@@ -211,4 +212,4 @@ pub runs_well : (s : Settings) (start : Start) (arrivals : List Arrival) (replie
     → HasRun s start arrivals replies store → RunsWell s start arrivals replies store
 runs_well s start arrivals replies store sound ran =
     let fed = taken s start ran.heard in
-    record { run = ran; well = goes_well start.queue fed sound (are_taken start fed ran.accepted) }
+    record { run = ran; well = goes_well start fed sound (are_taken start fed ran.accepted) }

@@ -7,4 +7,5 @@ pub mod HandledLemmas
 pub mod SessionsLemmas
 mod SaidLemmas
 mod CauseLemmas
+mod ShutLemmas
 mod RowsLeft

@@ -1,9 +1,12 @@
 -- Worked rows of what an answer leaves in the store, and of what a crash behind it may leave.
-use Rattle.std.proofs.Common.{arith, ◌≡◌, ◌⊎◌, ◌∙◌, inl, inr, refl, sym, ap, subst, true, false, ℕ, List, [], ◌∷◌, ◌++◌, map}
-use Rattle.std.specs.Prelude.{Ok, Err, Some, None}
+use Rattle.std.proofs.Common.{arith, ◌≡◌, ◌⊎◌, ◌∙◌, inl, inr, refl, sym, ap, subst, true, false, ℕ, ◌≤◌, List, [], ◌∷◌, ◌++◌, map}
+use Rattle.std.specs.Prelude.{Ok, Err}
 use Rattle.std.proofs.lemmas.Bool.{true≢false}
 use Rattle.sqlite.specs.Effect.{Database}
 use Rattle.sqlite.specs.State.{State}
+use Rattle.sqlite_trees.specs.View.{Tells}
+use Rattle.sqlite_trees.specs.declared.error.StoreError.TheVariants.{OutOfMemory}
+use Rattle.sqlite.specs.declared.types.Value.TheVariants.{Text}
 use Rattle.sqlite_trees.specs.Tree.{Trees}
 use Rattle.fax_job.specs.declared.refusal.Refusal.TheVariants.{NoModem, Unavailable}
 use Rattle.fax_ask.specs.Response.{Response, refused_response}
@@ -14,18 +17,20 @@ use Rattle.fax_core.specs.Settings.{Settings}
 use Rattle.fax_core.specs.Sound.{Sound}
 use Rattle.fax_core.proofs.RowWords.{settings}
 use Rattle.fax_store.specs.Kept.{HasReply}
-use Rattle.fax_store.specs.Store.{MayFind, Means, RowsFound, Serves}
+use Rattle.fax_schema.specs.Schema.{floors_tree}
+use Rattle.fax_store.specs.Store.{HasRow, MayFind, Means, RowsFound, Serves}
+use Rattle.fax_tables.specs.Row.{number}
 use Rattle.fax_tables.specs.Tables.{IsAtRest}
 use Rattle.fax_run.proofs.RowsRuns.{accepted, comes_to, looks, refused, start, submitted, unknown_modem, worker}
 use Rattle.fax_run.specs.Arrival.{number_of}
 use Rattle.fax_run.specs.Laws.{left_of}
 use Rattle.fax_run.specs.Reading.{IsReading, Reading}
 use Rattle.fax_run.specs.Run.{IsRun, Start, end_of}
-use Rattle.fax_once.specs.Stop.{AreMadeBy, AtEnd, Before, Besides, IsLeftBehind, IsMadeIn, MayLeave, OnlyAcceptedMakeRows, Stops, StopsBy, StopsIn, accepts}
+use Rattle.fax_once.specs.Stop.{AreMadeBy, AtEnd, Before, Besides, IsLeftBehind, IsMadeIn, MayLeave, OnlyAcceptedMakeRows, Stops, StopsAnswered, StopsBy, StopsIn, accepts}
 use Rattle.fax_run.specs.Verdict.{Verdict, Told, Repeated, Accepted, IsVerdict, reply_of, verdict}
-use Rattle.fax_once.specs.Handled.{Answers, GivesOut, Handles, IsNotAccepted, IsUsed, Leaves, LeavesBy}
+use Rattle.fax_once.specs.Handled.{Answers, GivesOut, Handles, IsGivenUp, IsNotAccepted, IsUsed, Leaves, LeavesBy, SaysShut}
 use Rattle.fax_run.specs.declared.arrival.Arrival.{Arrival}
-use Rattle.fax_run.specs.Sessions.{IsSession, session_of}
+use Rattle.fax_run.specs.Sessions.{Failed, IsSession, Nothing, Unanswered, session_of}
 use Rattle.fax_once.specs.Ran.{LeftBySession, RunsAsSession}
 
 -- ---- an answer
@@ -94,6 +99,32 @@ number_used_row a db its used =
     let same : used.number ≡ 7 = cc in
     subst (HasReply db a.client.now) same used.kept
 
+-- a number is given up where the client has a floor and none is below it; also where its floor is no number
+given_up_row : (a : Arrival) (db : Database) → number_of a ≡ Ok 7 → HasRow db floors_tree (1 ∷ []) (Text a.client.now ∷ [])
+    → ((floor : ℕ) → HasRow db floors_tree (1 ∷ 2 ∷ []) (Text a.client.now ∷ number floor ∷ []) → 7 ≤ floor) → IsGivenUp a db
+given_up_row a db its some each = record { number = 7; under = its; reaches = record { some = some; each = each } }
+
+-- and not where a floor is below it, or there is none
+floor_below_row : (a : Arrival) (db : Database) → number_of a ≡ Ok 7 → HasRow db floors_tree (1 ∷ 2 ∷ []) (Text a.client.now ∷ number 6 ∷ []) → ¬ IsGivenUp a db
+floor_below_row a db its below given =
+    let both : Ok given.number ≡ number_of a = sym given.under in
+    let same : given.number ≡ 7 = cc in
+    omega (arith, same, given.reaches.each 6 below)
+
+no_floor_row : (a : Arrival) (db : Database) → ¬ HasRow db floors_tree (1 ∷ []) (Text a.client.now ∷ []) → ¬ IsGivenUp a db
+no_floor_row a db none given = none given.reaches.some
+
+-- a shut store is said to be shut; of an open one either may be said
+says_row : (s : State) → SaysShut true s
+says_row s = λ shut. inl refl
+
+open_says_row : (s : State) → s.is_open ≡ true → SaysShut false s
+open_says_row s opened = λ shut. absurd (true≢false (sym opened ∙ shut))
+
+-- nothing is known where the engine ran out of memory
+unknown_row : (s : State) → Tells s.blamed OutOfMemory → SaysShut false s
+unknown_row s tells = λ shut. inr (record { cause = OutOfMemory; other = λ is. absurd cc; blamed = tells })
+
 -- ---- a crash behind an arrival
 
 -- the rows that a verdict makes mean where it leads
@@ -123,6 +154,32 @@ refused_stop_row : (a : Arrival) (old new : State) (found : Trees) → ((r : Rea
 refused_stop_row a old new found says stops may = elim (stops found may) [
   | inl before ↦ before
   | inr (v, (r, reads, is), made) ↦ absurd (subst (λ w. AreMadeBy w found) (is ∙ ap (verdict settings empty_queue empty_ledger) (says r reads)) made)
+]
+
+-- where the store is shut, what no crash before could leave is found only after an answer of 503
+answered_stop_row : (a : Arrival) (reply : Response) (old new : State) (found : Trees) → StopsAnswered settings a empty_queue empty_ledger reply old new
+    → MayFind new found → ¬ MayFind old found → new.is_open ≡ false
+    → ((v : Verdict) × IsVerdict settings a empty_queue empty_ledger v × AreMadeBy v found) × (reply ≡ refused Unavailable)
+answered_stop_row a reply old new found stops may not shut = elim (stops found may) [
+  | inl before ↦ absurd (not before)
+  | inr (v, is, made, inl opened) ↦ absurd (true≢false (sym opened ∙ shut))
+  | inr (v, is, made, inr failed) ↦ ((v, is, made), failed)
+]
+
+-- in an open store it is found whatever was answered
+open_stop_row : (a : Arrival) (reply : Response) (old new : State) → new.is_open ≡ true → Stops settings a empty_queue empty_ledger old new
+    → StopsAnswered settings a empty_queue empty_ledger reply old new
+open_stop_row a reply old new opened stops found may = elim (stops found may) [
+  | inl before ↦ inl before
+  | inr (v, is, made) ↦ inr (v, is, made, inl opened)
+]
+
+-- and in one that is shut after an answer of 503
+failed_stop_row : (a : Arrival) (old new : State) → Stops settings a empty_queue empty_ledger old new
+    → StopsAnswered settings a empty_queue empty_ledger (refused Unavailable) old new
+failed_stop_row a old new stops found may = elim (stops found may) [
+  | inl before ↦ inl before
+  | inr (v, is, made) ↦ inr (v, is, made, inr refl)
 ]
 
 -- ---- a crash behind a run
@@ -158,7 +215,7 @@ made_in_row a b c found says_fax says_next made = record {
   behind = c ∷ [];
   one = refl;
   told = accepted (Submitted 1) ∷ [];
-  more = refused Unavailable ∷ refused NoModem ∷ [];
+  more = refused NoModem ∷ [];
   answers = refl;
   later = looks 0 ∷ [];
   earlier = submitted ∷ [];
@@ -187,13 +244,18 @@ stops_in_row s from old new found (ran, left) may = subst (λ heard. IsLeftBehin
 
 module _ (s : Settings) (from : Start) where
   -- a session in which nothing came left where it began
-  same : (left : Start) → IsSession from (session_of s [] [] None) left → left ≡ from
+  same : (left : Start) → IsSession from (session_of s [] [] Nothing) left → left ≡ from
   same left x = x.leaves ∙ ap (end_of s from) x.answered
 
   -- and so do the rows
   left_row : (found : Trees) → LeftBySession s from [] [] found → RowsFound found from.queue from.kept
-  left_row found (None, came, (left, session, rows)) = subst (λ (e : Start). RowsFound found e.queue e.kept) (same left session) rows
-  left_row found (Some a, came, gone) = absurd came
+  left_row found (Nothing, all, (left, session, rows)) = subst (λ (e : Start). RowsFound found e.queue e.kept) (same left session) rows
+  left_row found (Unanswered a, none, gone) = absurd none
+  left_row found (Failed a, all, (left, session, rows)) = absurd (none session.leaves.0.before session.leaves.0.one)
+    where
+      none : (before : List Arrival) → [] ≡ before ++ a ∷ session.leaves.0.after → ⊥
+      none [] is = cc
+      none (b ∷ before) is = cc
 
   means_row : (old new : State) → RunsAsSession s from [] [] old new → Means new from.queue from.kept
   means_row old new run = subst (λ (e : Start). Means new e.queue e.kept) (same run.left run.session) run.means

@@ -1,15 +1,16 @@
 -- Which bytes are a client's name, and what is told of those that aren't.
-use Rattle.std.proofs.Common.{◌≡◌, ℕ, ◌<◌, List, [], ◌∷◌, Bool, true, false, sym, ap, subst, ◌∙◌, zero, suc, arith, lit<, Option, Some, None, Err, if◌then◌else◌}
+use Rattle.std.proofs.Common.{◌≡◌, inl, inr, ℕ, ◌<◌, List, [], ◌∷◌, Bool, true, false, sym, ap, subst, ◌∙◌, zero, suc, arith, lit<, Option, Some, None, Err, if◌then◌else◌}
 use Rattle.fax_job.specs.declared.refusal.Refusal.{Refusal}
 use Rattle.fax_job.specs.declared.refusal.Refusal.TheVariants.{BadClient, BadNumber}
 use Rattle.fax_value.specs.Number.{request_number_of}
 use Rattle.fax_ask.specs.Detail.{has_detail}
 use Rattle.sqlite.specs.Effect.{Database}
 use Rattle.fax_core.proofs.DecisionLemmas.{ok_same}
+use Rattle.fax_store.specs.Floors.{FloorStands}
 use Rattle.fax_store.specs.Kept.{HasReply}
 use Rattle.fax_once.specs.Sender.{IsSender}
 use Rattle.fax_run.specs.Arrival.{digits_of, number_of}
-use Rattle.fax_once.specs.Handled.{IsUsed}
+use Rattle.fax_once.specs.Handled.{IsGivenUp, IsUsed, ReachesTo}
 use Rattle.fax_run.specs.declared.arrival.Arrival.{Arrival}
 use Rattle.fax_once.specs.declared.sender.Sender.{Sender}
 use Rattle.std.specs.Prelude.{IsUtf8, slice_index}
@@ -50,3 +51,14 @@ pub its_reply : (a : Arrival) (sender : Sender) (db : Database) → IsSender a s
 its_reply a sender db from used =
     subst (λ (n : ℕ). HasReply db sender.client.now n) (ok_same used.number sender.number (sym used.its ∙ from.number))
     (subst (λ (client : List ℕ). HasReply db client used.number) (sym from.client) used.kept)
+
+-- what the rows say of the floor of an arrival's client they say of its sender's
+pub its_floor : (a : Arrival) (sender : Sender) (db : Database) → IsSender a sender → (given : IsGivenUp a db) → ReachesTo db sender.client.now sender.number
+its_floor a sender db from given =
+    subst (λ (n : ℕ). ReachesTo db sender.client.now n) (ok_same given.number sender.number (sym given.under ∙ from.number))
+    (subst (λ (client : List ℕ). ReachesTo db client given.number) (sym from.client) given.reaches)
+
+-- a number that the rows say is given up is above no floor that stands in them
+pub given_not_above : (db : Database) (client : List ℕ) (n floor : ℕ) → FloorStands db client floor → ReachesTo db client n → floor < n → ⊥
+given_not_above db client n floor (inl stands) reaches above = omega (arith, reaches.each floor stands, above)
+given_not_above db client n floor (inr (none, is)) reaches above = none reaches.some

@@ -1,12 +1,14 @@
 -- What a crash may leave behind an arrival.
-use Rattle.std.proofs.Common.{◌≡◌, inl, inr, Bool, refl, sym, ap, subst, ◌∙◌}
+use Rattle.std.proofs.Common.{◌≡◌, inl, inr, Bool, true, refl, sym, ap, subst, ◌∙◌}
 use Rattle.std.specs.Prelude.{ℕ, Option}
 use Rattle.sqlite.specs.State.{State, HasCleanDisk}
-use Rattle.fax_ask.specs.Response.{Response}
+use Rattle.fax_job.specs.declared.refusal.Refusal.TheVariants.{Unavailable}
+use Rattle.fax_ask.specs.Response.{Response, refused_response}
 use Rattle.fax_core.specs.Clock.{decided_at}
 use Rattle.fax_core.specs.Machine.{step}
 use Rattle.fax_core.specs.Ledger.{Ledger, with_reply, entry}
 use Rattle.fax_core.specs.Queue.{Queue}
+use Rattle.fax_core.specs.Reply.{NoKeys}
 use Rattle.fax_core.specs.Settings.{Settings}
 use Rattle.fax_core.specs.declared.ask.Ask.{Ask}
 use Rattle.fax_ask.specs.Ask.{IsAsk}
@@ -21,8 +23,10 @@ use Rattle.fax_store.specs.Work.{Begins, ChangesWhere, MayCommit, Opens, Withhol
 use Rattle.fax_once.specs.Sender.{IsSender}
 use Rattle.fax_run.specs.Arrival.{said_of}
 use Rattle.fax_run.specs.Reading.{IsReading, Reading, Faulty, Sees, Posts, post_of}
-use Rattle.fax_once.specs.Stop.{AreMadeBy, MayLeave, Stops, StopsBy, OnlyAcceptedMakeRows}
-use Rattle.fax_run.specs.Verdict.{Verdict, asked_for, decided_new, given_by, kept_with, stepped, verdict, without, Told, Repeated, Accepted}
+use Rattle.fax_once.specs.Handled.{Leaves}
+use Rattle.fax_once.specs.Stop.{AreMadeBy, MayLeave, Stops, StopsAnswered, StopsBy, OnlyAcceptedMakeRows}
+use Rattle.fax_run.specs.Laws.{OneVerdict}
+use Rattle.fax_run.specs.Verdict.{Verdict, IsVerdict, asked_for, decided_new, given_by, kept_with, stepped, verdict, without, Told, Repeated, Accepted}
 use Rattle.fax_run.specs.declared.arrival.Arrival.{Arrival}
 use Rattle.fax_once.specs.declared.sender.Sender.{Sender}
 use Rattle.fax_ask.specs.declared.method.Method.TheVariants.{Get}
@@ -99,6 +103,28 @@ asked_stops s a m k sender x ask old new is asked from stops found may =
       | inr made ↦ inr (asked_for s m k (post_of a sender.number ask), is_post s a m k sender x ask is asked from, made.1)
     ]
 
+-- ---- an arrival that was answered
+
+module _ (s : Settings) (a : Arrival) (m : Queue) (k : Ledger) (reply : Response) (old new : State) (stops : Stops s a m k old new) where
+  -- with 503
+  pub stops_failed : reply ≡ refused_response Unavailable NoKeys → StopsAnswered s a m k reply old new
+  stops_failed failed found may = elim (stops found may) [
+    | inl before ↦ inl before
+    | inr (v, is, made) ↦ inr (v, is, made, inr failed)
+  ]
+
+  -- by its verdict, which is the only one: what makes rows leaves an open store
+  pub stops_by_verdict : OneVerdict → (v : Verdict) → IsVerdict s a m k v → Leaves m k reply new v → StopsAnswered s a m k reply old new
+  stops_by_verdict one v is leaves found may = elim (stops found may) [
+    | inl before ↦ inl before
+    | inr (w, its, made) ↦ inr (w, its, made, inl (opened v (subst (λ (x : Verdict). AreMadeBy x found) (one s a m k w v its is) made) leaves))
+  ]
+    where
+      opened : (x : Verdict) → AreMadeBy x found → Leaves m k reply new x → new.is_open ≡ true
+      opened (Told told) none left = absurd none
+      opened (Repeated told) none left = absurd none
+      opened (Accepted after kept told) rows (is, serves, rests, sound) = serves.is_open
+
 -- ---- a GET
 
 -- what a GET comes to makes no rows
@@ -108,8 +134,8 @@ none_made s a m k found get (Sees moment what) reads made = made
 none_made s a m k found get (Posts p) reads made = no_post a (Posts p) p get reads refl
 
 -- it makes no rows
-pub gets_nothing : (s : Settings) (a : Arrival) (m : Queue) (k : Ledger) (old new : State) → a.method ≡ Get → Stops s a m k old new → CommitsNothing old new
-gets_nothing s a m k old new get stops found may = elim (stops found may) [
+pub gets_nothing : (s : Settings) (a : Arrival) (m : Queue) (k : Ledger) (reply : Response) (old new : State) → a.method ≡ Get → StopsAnswered s a m k reply old new → CommitsNothing old new
+gets_nothing s a m k reply old new get stops found may = elim (stops found may) [
   | inl before ↦ before
-  | inr (v, (r, reads, is), made) ↦ absurd (none_made s a m k found get r reads (subst (λ w. AreMadeBy w found) is made))
+  | inr (v, (r, reads, is), made, so) ↦ absurd (none_made s a m k found get r reads (subst (λ w. AreMadeBy w found) is made))
 ]

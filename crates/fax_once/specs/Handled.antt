@@ -1,7 +1,11 @@
 -- What an arrival that was handled leaves in the store.
-use Rattle.std.specs.Prelude.{◌≡◌, ◌⊎◌, ⊤, ℕ, false, Result, Ok, MatchResult}
+use Rattle.std.specs.Prelude.{◌≡◌, ◌≢◌, ◌⊎◌, ◌≤◌, ⊤, ℕ, Bool, true, false, List, [], ◌∷◌, Result, Ok, MatchResult}
 use Rattle.sqlite.specs.Effect.{Database}
 use Rattle.sqlite.specs.State.{State}
+use Rattle.sqlite_trees.specs.View.{Tells}
+use Rattle.sqlite_trees.specs.declared.error.StoreError.{StoreError}
+use Rattle.sqlite_trees.specs.declared.error.StoreError.TheVariants.{Broken}
+use Rattle.sqlite.specs.declared.types.Value.TheVariants.{Text}
 use Rattle.fax_job.specs.declared.refusal.Refusal.TheVariants.{Unavailable}
 use Rattle.fax_ask.specs.Response.{Response, refused_response}
 use Rattle.fax_core.specs.declared.ask.Ask.{Ask}
@@ -13,7 +17,9 @@ use Rattle.fax_core.specs.Sound.{Sound}
 use Rattle.fax_run.specs.Arrival.{number_of}
 use Rattle.fax_run.specs.declared.arrival.Arrival.{Arrival}
 use Rattle.fax_store.specs.Kept.{HasReply}
-use Rattle.fax_store.specs.Store.{Means, Serves}
+use Rattle.fax_schema.specs.Schema.{floors_tree}
+use Rattle.fax_store.specs.Store.{HasRow, Means, Serves}
+use Rattle.fax_tables.specs.Row.{number}
 use Rattle.fax_tables.specs.Tables.{IsAtRest}
 use Rattle.fax_run.specs.Verdict.{Verdict, Told, Repeated, Accepted, IsVerdict, without_given}
 
@@ -44,6 +50,27 @@ pub record IsUsed (a : Arrival) (db : Database) : Type 0 where
   pub number : ℕ
   pub its : number_of a ≡ Ok number
   pub kept : HasReply db a.client.now number
+
+-- the rows have a floor of the client, and each that is a number is this one or higher, whatever else they say
+pub record ReachesTo (db : Database) (client : List ℕ) (n : ℕ) : Type 0 where
+  pub some : HasRow db floors_tree (1 ∷ []) (Text client ∷ [])
+  pub each : (floor : ℕ) → HasRow db floors_tree (1 ∷ 2 ∷ []) (Text client ∷ number floor ∷ []) → n ≤ floor
+
+-- the rows say that the client has given the arrival's number up, or its floor is damaged
+pub record IsGivenUp (a : Arrival) (db : Database) : Type 0 where
+  pub number : ℕ
+  pub under : number_of a ≡ Ok number
+  pub reaches : ReachesTo db a.client.now number
+
+-- the engine failed as it was asked, and not since its database is shut: for want of memory, say
+pub record IsUnknown (s : State) : Type 0 where
+  pub cause : StoreError
+  pub other : cause ≢ Broken
+  pub blamed : Tells s.blamed cause
+
+-- a store that is shut is said to be, or nothing is known
+abbrev pub SaysShut : Bool → State → Type 0
+SaysShut says s = s.is_open ≡ false → (says ≡ true) ⊎ IsUnknown s
 
 -- an arrival is answered by its verdict, or 503
 abbrev pub Handles : Settings → Arrival → Queue → Ledger → Response → State → Type 0

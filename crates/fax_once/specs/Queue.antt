@@ -26,7 +26,7 @@ use Rattle.fax_store.specs.Store.{Means, Rests, Serves, Stays}
 use Rattle.fax_once.specs.Sender.{IsSender}
 use Rattle.fax_run.specs.Reading.{post_of}
 use Rattle.fax_once.specs.Stop.{Stops, StopsBy}
-use Rattle.fax_once.specs.Handled.{Answers, IsNotAccepted, IsUsed, LeavesBy}
+use Rattle.fax_once.specs.Handled.{Answers, IsGivenUp, IsNotAccepted, IsUsed, LeavesBy, ReachesTo}
 use Rattle.fax_run.specs.Verdict.{Verdict, asked_for, new_asked}
 use Rattle.fax_run.specs.declared.arrival.Arrival.{Arrival}
 use Rattle.fax_once.specs.declared.queue.Queue.{Queue}
@@ -100,6 +100,8 @@ module _ {S : Type 0} (g : Ghosts S) where
     pub seen : a.method ≡ Get → IsAsk a.method a.path.now a.body.now ask → Stays (tables old) (tables new)
     -- So does what comes under a number to which they have a reply.
     pub repeated : (db : Database) → db.schema ≡ our_tables → Rests (tables old) db → IsUsed a db → Rests (tables new) db
+    -- And what comes under one that they say is given up.
+    pub given : (db : Database) → db.schema ≡ our_tables → Rests (tables old) db → IsGivenUp a db → Rests (tables new) db
     -- From each sound queue it comes to the arrival's verdict.
     pub answered : From old (λ m k. AsksFor a ask → ComesOf old new result m k a)
 
@@ -109,6 +111,8 @@ module _ {S : Type 0} (g : Ghosts S) where
     pub leaves : Replies old new result
     -- Whatever the rows say, they stay where they have a reply to the sender's number.
     pub repeated : (db : Database) → db.schema ≡ our_tables → Rests (tables old) db → HasReply db sender.client.now sender.number → Rests (tables new) db
+    -- And where they say that it is given up.
+    pub given : (db : Database) → db.schema ≡ our_tables → Rests (tables old) db → ReachesTo db sender.client.now sender.number → Rests (tables new) db
     -- From each sound queue it comes to what is asked for.
     pub comes : From old (λ m k. AsksStep a sender ask → ComesTo old new result m k (asked_for (settings old) m k (post_of a sender.number ask)))
 

@@ -1,11 +1,13 @@
 -- What a crash may leave behind an arrival.
-use Rattle.std.specs.Prelude.{◌≡◌, Bool, true, false, List, [], ◌∷◌, ◌++◌}
+use Rattle.std.specs.Prelude.{◌≡◌, ◌⊎◌, Bool, true, false, List, [], ◌∷◌, ◌++◌}
 use Rattle.sqlite.specs.State.{State}
 use Rattle.sqlite_trees.specs.Tree.{Trees}
+use Rattle.fax_job.specs.declared.refusal.Refusal.TheVariants.{Unavailable}
 use Rattle.fax_core.specs.Ledger.{Ledger}
 use Rattle.fax_core.specs.Queue.{Queue}
+use Rattle.fax_core.specs.Reply.{NoKeys}
 use Rattle.fax_core.specs.Settings.{Settings}
-use Rattle.fax_ask.specs.Response.{Response}
+use Rattle.fax_ask.specs.Response.{Response, refused_response}
 use Rattle.fax_store.specs.Store.{MayFind, MayMake, RowsFound, Serves}
 use Rattle.fax_once.specs.Ran.{HasRun}
 use Rattle.fax_run.specs.Reading.{Reading}
@@ -36,11 +38,16 @@ StopsBy old new v = MayMake old new (λ found. Serves old × AreMadeBy v found)
 abbrev pub Stops : Settings → Arrival → Queue → Ledger → State → State → Type 0
 Stops s a m k old new = MayMake old new (λ found. (v : Verdict) × IsVerdict s a m k v × AreMadeBy v found)
 
+-- The same of an arrival that was answered: what its verdict makes may be found where the store is open, or where it was answered 503.
+abbrev pub StopsAnswered : Settings → Arrival → Queue → Ledger → Response → State → State → Type 0
+StopsAnswered s a m k reply old new =
+    MayMake old new (λ found. (v : Verdict) × IsVerdict s a m k v × AreMadeBy v found × ((new.is_open ≡ true) ⊎ (reply ≡ refused_response Unavailable NoKeys)))
+
 -- A crash leaves what a crash before could leave, or, where the store served, rows that mean this.
 abbrev pub MayLeave : State → State → Queue → Ledger → Type 0
 MayLeave old new m k = MayMake old new (λ found. Serves old × RowsFound found m k)
 
--- These are the rows that one of the arrivals makes, by its verdict behind what was heard of those before it, by their replies. Nothing was taken since.
+-- These are the rows that one of the arrivals makes, by its verdict after what was heard of those before it, by their replies. It was answered 503, and nothing was taken since.
 pub record IsMadeIn (s : Settings) (start : Start) (arrivals : List Arrival) (replies : List Response) (heard : List Reading) (found : Trees) : Type 0 where
   pub before : List Arrival
   pub arrival : Arrival
@@ -48,7 +55,7 @@ pub record IsMadeIn (s : Settings) (start : Start) (arrivals : List Arrival) (re
   pub one : arrivals ≡ before ++ arrival ∷ behind
   pub told : List Response
   pub more : List Response
-  pub answers : replies ≡ told ++ more
+  pub answers : replies ≡ told ++ refused_response Unavailable NoKeys ∷ more
   pub later : List Reading
   pub earlier : List Reading
   pub then : heard ≡ later ++ earlier

@@ -14,17 +14,18 @@ ghost use Rattle.fax_core.specs.Reply.{NoKeys};
 ghost use Rattle.fax_store.specs.Store.{CommitsNothing, LeavesAlone, Rests, Serves, Stays};
 ghost use Rattle.fax_schema.specs.Schema.{our_tables};
 ghost use Rattle.fax_core.specs.Ledger.{IsKeptStatus};
-ghost use Rattle.fax_once.specs.Handled.{IsSoundWith, Answers, Handles, IsUsed};
+ghost use Rattle.fax_once.specs.Handled.{IsSoundWith, Answers, Handles, IsGivenUp, IsUsed, SaysShut};
 ghost use Rattle.fax_once.specs.Ran.{RunsWell, RunsAsSession};
 ghost use Rattle.fax_decide.specs.Fault.{OnlyNoAnswer};
 ghost use Rattle.fax_run.specs.Arrival.{said_of};
 ghost use Rattle.fax_once.specs.Queue.{AnswersAsk, AnswersNew, AnswersStep, From, Replies, Shows, settings, tables};
-ghost use Rattle.fax_once.specs.Stop.{Stops, StopsIn};
+ghost use Rattle.fax_once.specs.Stop.{Stops, StopsAnswered, StopsIn};
 ghost use Rattle.fax_run.specs.declared.arrival.Arrival.{Arrival as ArrivalOf};
 
 use crate::acceptance::{Change, accept};
 use crate::arrival::{get, says};
 use crate::floor::{given_by, raised};
+use crate::laws::{no_verdict_is_unavailable, one_verdict};
 use crate::refusing::refuse_ask;
 use crate::sender::Sender;
 use fax_ask::{Ask, Reply, Routes, View};
@@ -101,24 +102,32 @@ impl<S: Alter> Queue<S> {
             → Handles (settings self.old) arrival.now m k result (tables S.Store self.new)) }
         ensures sound { From S.Store self.old (λ m k. HasCleanDisk (tables S.Store self.new)
             → IsSoundWith k (tables S.Store self.new)) }
-        // A crash leaves what a crash before could leave, or what the request makes, with its reply kept. While the
-        // store is open it leaves the last commit alone.
-        ensures crash { From S.Store self.old (λ m k. Stops (settings self.old) arrival.now m k
+        // A crash leaves what a crash before could leave, or what the request makes, with its reply kept: where the
+        // store is shut, only if it is answered 503. While the store is open it leaves the last commit alone.
+        ensures crash { From S.Store self.old (λ m k. StopsAnswered (settings self.old) arrival.now m k result
             (tables S.Store self.old) (tables S.Store self.new)) }
         ensures alone { Serves (tables S.Store self.new)
             → LeavesAlone (tables S.Store self.new) (tables S.Store self.new).committed.trees }
         // Whatever the rows say, a refusal changes nothing, a GET doesn't either, and nor does what comes under a used
-        // number.
+        // number, or under one that is given up.
         ensures refused { ¬ IsKeptStatus result.status → Stays (tables S.Store self.old) (tables S.Store self.new) }
         ensures seen { arrival.now.method ≡ Get → Stays (tables S.Store self.old) (tables S.Store self.new) }
         ensures repeated { (db : Database) → db.schema ≡ our_tables → Rests (tables S.Store self.old) db
             → IsUsed arrival.now db → Rests (tables S.Store self.new) db }
+        ensures given { (db : Database) → db.schema ≡ our_tables → Rests (tables S.Store self.old) db
+            → IsGivenUp arrival.now db → Rests (tables S.Store self.new) db }
         // So what `close` gives back is what `Store::adopt` takes.
         ensures idle { From S.Store self.old (λ m k. Serves (tables S.Store self.new)
             → (tables S.Store self.new).in_transaction ≡ false) }
         ensures shut { IsTrue self.new.is_shut → HasCleanDisk (tables S.Store self.new)
             → (tables S.Store self.new).is_open ≡ false }
+        // And where an answer of 503 leaves it shut, the queue says so, unless the engine can't be asked.
+        ensures says { From S.Store self.old (λ m k. HasCleanDisk (tables S.Store self.new)
+            → result ≡ refused_response Refusal.Unavailable NoKeys
+            → SaysShut self.new.is_shut (tables S.Store self.new)) }
     {
+        one_verdict();
+        no_verdict_is_unavailable();
         match self.answer(alloc, arrival) {
             Ok(reply) => {
                 self.is_shut = false;
@@ -200,6 +209,8 @@ impl<S: Alter> Queue<S> {
         ensures seen { arrival.now.method ≡ Get → Stays (tables S.Store self.old) (tables S.Store self.new) }
         ensures repeated { (db : Database) → db.schema ≡ our_tables → Rests (tables S.Store self.old) db
             → IsUsed arrival.now db → Rests (tables S.Store self.new) db }
+        ensures given { (db : Database) → db.schema ≡ our_tables → Rests (tables S.Store self.old) db
+            → IsGivenUp arrival.now db → Rests (tables S.Store self.new) db }
         ensures crash { From S.Store self.old (λ m k. Stops (settings self.old) arrival.now m k
             (tables S.Store self.old) (tables S.Store self.new)) }
         ensures answered { From S.Store self.old (λ m k. HasCleanDisk (tables S.Store self.new)

@@ -1,7 +1,7 @@
 -- What is taken is lawful, and goes well; and a run goes on by one arrival.
-use Rattle.std.proofs.Common.{◌≡◌, inl, inr, ℕ, Bool, true, false, not, List, [], ◌∷◌, ◌++◌, refl, sym, ap, subst, ◌∙◌, if◌then◌else◌}
+use Rattle.std.proofs.Common.{◌≡◌, inl, inr, ℕ, ◌+◌, ◌<◌, ◌≤◌, arith, Bool, true, false, not, List, [], ◌∷◌, ◌++◌, refl, sym, ap, subst, ◌∙◌, if◌then◌else◌}
 use Rattle.std.specs.Prelude.{⊤}
-use Rattle.std.proofs.lemmas.Bool.{and_parts}
+use Rattle.std.proofs.lemmas.Bool.{and_parts, lt-ltb, ltb-true}
 use Rattle.fax_job.specs.declared.refusal.Refusal.TheVariants.{Unavailable}
 use Rattle.fax_ask.specs.Ask.{Asks}
 use Rattle.fax_ask.specs.declared.ask.Ask.TheVariants.{Step}
@@ -17,13 +17,14 @@ use Rattle.fax_core.proofs.ReadImportLemmas.{read_counts}
 use Rattle.fax_core.specs.Queue.{Queue}
 use Rattle.fax_core.specs.Sound.{IsJob, Sound}
 use Rattle.fax_run.proofs.GrantLemmas.{runs_keep_grants}
-use Rattle.fax_run.proofs.OnceLemmas.{runs_are_sound, runs_send_once}
+use Rattle.fax_run.proofs.LedgerLemmas.{floors_rise}
+use Rattle.fax_run.proofs.OnceLemmas.{clock_rises, runs_are_sound, runs_send_no_imported_page, runs_send_once}
 use Rattle.fax_run.proofs.ReadingLemmas.{Says, Says_fault, Says_post, Says_view, same_ask, says}
 use Rattle.fax_run.proofs.SumLemmas.{counters_are_counts}
 use Rattle.fax_run.specs.Laws.{AreAccepted, AreTaken, GoesWell, KeepsGrants}
 use Rattle.fax_run.specs.Reading.{Reading, Faulty, Sees, Posts, IsReading}
-use Rattle.fax_run.specs.Run.{Fed, Start, IsRun, is_new, is_taken, queue_after, reply_at, step_of, takes, under, with_taken}
-use Rattle.fax_run.specs.Verdict.{is_too_high}
+use Rattle.fax_run.specs.Run.{Fed, Start, IsRun, is_new, is_taken, kept_after, queue_after, reply_at, step_of, takes, under, with_taken}
+use Rattle.fax_run.specs.Verdict.{is_too_high, raised}
 use Rattle.fax_run.specs.declared.arrival.Arrival.{Arrival}
 
 -- ---- what is posted is lawful
@@ -96,17 +97,39 @@ heard_more s start past arrivals replies heard a reply r is reads told = absurd 
 
 -- ---- what holds of it
 
--- what holds behind requests that were taken
-pub goes_well : (m : Queue) (fed : List Fed) → Sound m → AreTaken m fed → GoesWell m fed
-goes_well m fed sound are =
+-- no floor of a client falls by one more request
+floor_left : (start : Start) (earlier : List Fed) (f : Fed) (client : List ℕ) → (kept_after start earlier).floor client ≤ (kept_after start (f ∷ earlier)).floor client
+floor_left start earlier f client =
+    let k = kept_after start earlier in
+    let q = f.post in
+    let floor = (kept_after start (f ∷ earlier)).floor client in
+    let above = floors_rise q.client (raised (k.floor q.client) q).request.ask k client (floor + 1) (lt-ltb floor (floor + 1) (omega arith)) in
+    let least : k.floor client < floor + 1 = ltb-true (k.floor client) (floor + 1) above in
+    omega (arith, least)
+
+floors_on : (start : Start) (later earlier : List Fed) (client : List ℕ) → (kept_after start earlier).floor client ≤ (kept_after start (later ++ earlier)).floor client
+floors_on start [] earlier client = omega arith
+floors_on start (f ∷ later) earlier client =
+    let before = floors_on start later earlier client in
+    let here = floor_left start (later ++ earlier) f client in
+    omega (arith, before, here)
+
+-- what holds after requests that were taken
+pub goes_well : (start : Start) (fed : List Fed) → Sound start.queue → AreTaken start.queue fed → GoesWell start fed
+goes_well start fed sound are =
+    let m = start.queue in
     let after = runs_are_sound m fed sound are in
     record {
       sound = after.0;
       held_once = after.1;
       sent_once = runs_send_once m fed sound are;
+      imported = runs_send_no_imported_page m fed sound are;
       grants_stay = λ later earlier split.
           subst (λ (fs : List Fed). KeepsGrants (queue_after m earlier) (queue_after m fs)) (sym split)
           (runs_keep_grants m later earlier sound (subst (AreTaken m) split are));
+      clock = clock_rises m fed are;
+      floors = λ client later earlier split.
+          subst (λ (fs : List Fed). (kept_after start earlier).floor client ≤ (kept_after start fs).floor client) (sym split) (floors_on start later earlier client);
       counted = λ empty number j there.
           counters_are_counts fed (subst (λ (q : Queue). AreTaken q fed) empty are) number j
           (subst (λ (q : Queue). IsJob (queue_after q fed) number j) empty there);

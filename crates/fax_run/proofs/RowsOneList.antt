@@ -1,6 +1,6 @@
 -- Worked rows of what one list of accepted requests says of all that was answered and left. Of the list the newest comes first.
 use Rattle.std.proofs.Common.{◌≡◌, ◌∙◌, inl, inr, refl, sym, ap, ap₂, subst, List, [], ◌∷◌, ◌++◌}
-use Rattle.std.specs.Prelude.{◌≢◌, codes, Some, None}
+use Rattle.std.specs.Prelude.{◌≢◌, codes, Some}
 use Rattle.std.specs.List.{AllByRecursion}
 use Rattle.std.proofs.lemmas.Bool.{true≢false}
 use Rattle.fax_job.specs.declared.refusal.Refusal.TheVariants.{Unavailable}
@@ -15,7 +15,7 @@ use Rattle.fax_core.specs.Ledger.{kept_for, IsKeptStatus}
 use Rattle.fax_run.specs.Laws.{AreAccepted, GoesWell}
 use Rattle.fax_run.specs.Reading.{IsReading, Post, Posts, Reading}
 use Rattle.fax_run.specs.Run.{Fed, Start, end_after, reply_to, under}
-use Rattle.fax_run.specs.Sessions.{Adds, AreAdded, CameIn, EachOnce, HasIts, HasReplyOf, HaveOneList, IsAnsweredBy, IsSession, IsSettled, IsToldBy, Session, session_of}
+use Rattle.fax_run.specs.Sessions.{Adds, AreAdded, CameIn, CameInTurn, EachOnce, Failed, HasIts, HasReplyOf, HaveOneList, IsAnsweredBy, IsSession, IsSettled, IsToldBy, Nothing, Session, Unanswered, session_of}
 use Rattle.fax_run.specs.Verdict.{Repeated, reply_of, verdict}
 use Rattle.fax_run.specs.declared.arrival.Arrival.{Arrival}
 
@@ -52,30 +52,50 @@ alone one it (x ∷ later) earlier is = absurd (none later earlier it cc)
 no_session_row : (first last : Start) → HaveOneList first [] last → last ≡ first
 no_session_row first last all = all.left ∙ ap (end_after first) all.added
 
--- what came in a session, or was under way at its end, may be fed by its setup
-came_row : (a b : Arrival) (reply : Response) → IsReading a (Posts its_post)
-    → CameIn (session_of settings (a ∷ []) (reply ∷ []) None) its_fed × CameIn (session_of settings (a ∷ []) (reply ∷ []) (Some b)) its_fed
+-- what came in a session may be fed by its setup, where the reply to its step was replied to it, or where it was under way at the end
+came_row : (a b : Arrival) (reply : Response) → IsReading a (Posts its_post) → let own = accepted (Submitted 1) in
+    CameIn start (session_of settings (a ∷ []) (own ∷ []) Nothing) its_fed []
+    × CameIn start (session_of settings (b ∷ a ∷ []) (reply ∷ own ∷ []) (Failed b)) its_fed []
+    × CameIn start (session_of settings (b ∷ []) (reply ∷ []) (Unanswered a)) its_fed []
+    × CameIn start (session_of settings (a ∷ []) (reply ∷ []) (Failed a)) its_fed []
 came_row a b reply says = (
-  record { arrival = a; came = inl refl; posts = says; settings = refl },
-  record { arrival = a; came = inr (inl refl); posts = says; settings = refl },
+  record { arrival = a; posts = says; settings = refl; answered = inl (inl (refl, refl)) },
+  record { arrival = a; posts = says; settings = refl; answered = inl (inr (inl (refl, refl))) },
+  record { arrival = a; posts = says; settings = refl; answered = inr refl },
+  record { arrival = a; posts = says; settings = refl; answered = inr refl },
 )
 
+-- What was refused there isn't in the list, where nothing was under way: what is in it was answered as its step is where it stands.
+answered_own_row : (first : Start) (s : Settings) (a : Arrival) (reply : Response) (f : Fed) (earlier : List Fed)
+    → CameIn first (session_of s (a ∷ []) (reply ∷ []) Nothing) f earlier → IsReading a (Posts f.post) × (reply ≡ reply_to (end_after first earlier) f)
+answered_own_row first s a reply f earlier came = elim came.answered [
+  | inl here ↦ elim here [
+    | inl (its, is) ↦ (subst (λ b. IsReading b (Posts f.post)) (sym its) came.posts, is)
+    | inr more ↦ absurd more
+  ]
+  | inr was ↦ absurd was
+]
+
 -- a session in which nothing came fed nothing
-nothing_fed_row : (s : Settings) (f : Fed) (before : List Fed) → Adds (session_of s [] [] None) (f ∷ before) before → ⊥
+nothing_fed_row : (s : Settings) (f : Fed) (before : List Fed) → Adds start (session_of s [] [] Nothing) (f ∷ before) before → ⊥
 nothing_fed_row s f before ([], is, each) = longer f before is
   where
     longer : (f : Fed) (fs : List Fed) → f ∷ fs ≡ fs → ⊥
     longer f [] is = cc
     longer f (g ∷ fs) is = longer g fs cc
-nothing_fed_row s f before (g ∷ own, is, (came, each)) = came.came
+nothing_fed_row s f before (g ∷ own, is, (came, each)) = elim came.answered [ inl here ↦ absurd here | inr was ↦ absurd was ]
 
 -- what was under way as one was broken off is what it fed, by its setup
-broken_row : (a : Arrival) (f : Fed) → Adds (broken a) (f ∷ []) [] → (f.settings ≡ settings) × IsReading a (Posts f.post)
+broken_row : (a : Arrival) (f : Fed) → Adds start (broken a) (f ∷ []) [] → (f.settings ≡ settings) × IsReading a (Posts f.post)
 broken_row a f ([], is, each) = absurd cc
 broken_row a f (g ∷ own, is, (came, each)) =
     let same : g ≡ f = cc in
     subst (λ (x : Fed). (x.settings ≡ settings) × IsReading a (Posts x.post)) same
-    (came.settings, elim came.came [ inl its ↦ subst (λ b. IsReading b (Posts g.post)) its came.posts | inr more ↦ absurd more ])
+    (came.settings, elim came.answered [ inl here ↦ absurd here | inr was ↦ subst (λ b. IsReading b (Posts g.post)) (sym was) came.posts ])
+
+-- each of two that came in turn came after those before it
+in_turn_row : (x : Session) (f g : Fed) (before : List Fed) → CameInTurn start x (g ∷ f ∷ []) before → CameIn start x g (f ∷ before) × CameIn start x f before
+in_turn_row x f g before (came, (first, nothing)) = (came, first)
 
 -- the only session went on from where all began, and left where the list leads
 only_session_row : (first : Start) (x : Session) (fed : List Fed) → AreAdded first (x ∷ []) fed → IsSession first x (end_after first fed)
@@ -109,7 +129,7 @@ told_row first s a p reply says by =
 
 -- an arrival that isn't answered 27 is told so
 answered_row : (first : Start) (fed : List Fed) (s : Settings) (a : Arrival) (reply : Response) → reply ≢ refused_response Unavailable NoKeys
-    → IsAnsweredBy first fed (session_of s (a ∷ []) (reply ∷ []) None) → IsToldBy first fed s a reply
+    → IsAnsweredBy first fed (session_of s (a ∷ []) (reply ∷ []) Nothing) → IsToldBy first fed s a reply
 answered_row first fed s a reply heard (inl lost, rest) = absurd (heard lost)
 answered_row first fed s a reply heard (inr told, rest) = told
 
@@ -123,5 +143,5 @@ settled_row s (inr (reply, stands, again)) =
 
 -- all that one list says
 all_row : (first last : Start) (sessions : List Session) (all : HaveOneList first sessions last) → AreAdded first sessions all.fed × AreAccepted first all.fed
-    × EachOnce all.fed × GoesWell first.queue all.fed × AllByRecursion (IsAnsweredBy first all.fed) sessions × ((p : Post) → IsSettled first all.fed p)
+    × EachOnce all.fed × GoesWell first all.fed × AllByRecursion (IsAnsweredBy first all.fed) sessions × ((p : Post) → IsSettled first all.fed p)
 all_row first last sessions all = (all.added, all.accepted, all.once, all.well, all.answered, all.settled)

@@ -1,16 +1,17 @@
 -- Worked rows of sessions: a restart by another setup, and a session that was broken off. Of sessions and of what was heard the newest comes first.
-use Rattle.std.proofs.Common.{inl, inr, subst}
-use Rattle.std.specs.Prelude.{◌≡◌, ◌⊎◌, refl, ℕ, List, [], ◌∷◌, ◌++◌, false, map, codes, Some, None}
+use Rattle.std.proofs.Common.{arith, inl, inr, ap, subst, ◌∙◌}
+use Rattle.std.specs.Prelude.{◌≡◌, ◌⊎◌, refl, ℕ, List, [], ◌∷◌, ◌++◌, false, map, codes}
 use Rattle.std.specs.Str.{bytes_eq}
-use Rattle.fax_job.specs.declared.refusal.Refusal.TheVariants.{NoModem}
+use Rattle.fax_job.specs.declared.refusal.Refusal.TheVariants.{NoModem, Unavailable}
 use Rattle.fax_core.specs.declared.ask.Ask.TheVariants.{Next}
 use Rattle.fax_core.specs.Reply.{Given, Submitted}
 use Rattle.fax_core.specs.Settings.{Settings}
 use Rattle.fax_core.proofs.RowWords.{hand, settings, ttyS0, ttyS1}
-use Rattle.fax_run.proofs.RowsRuns.{accepted, desk, fax, lab, post, refused, start, submitted, worker}
+use Rattle.fax_run.proofs.RowsRuns.{accepted, desk, fax, lab, post, refused, start, submitted, unknown_modem, worker}
 use Rattle.fax_run.specs.Reading.{IsReading, Reading}
-use Rattle.fax_run.specs.Run.{Start, end_after, end_of, taken}
-use Rattle.fax_run.specs.Sessions.{Follow, IsSession, LeavesOff, Session, session_of}
+use Rattle.fax_ask.specs.Response.{Response}
+use Rattle.fax_run.specs.Run.{IsRun, Start, end_after, end_of, taken}
+use Rattle.fax_run.specs.Sessions.{AllAnswered, Failed, Follow, HasFailed, IsSession, LeavesOff, Nothing, Session, Unanswered, session_of}
 use Rattle.fax_run.specs.declared.arrival.Arrival.{Arrival}
 
 -- ---- words
@@ -40,8 +41,8 @@ night = end_of other day (asks ttyS1 ∷ asks ttyS0 ∷ [])
 -- the second session begins from what the first left, and answers by its own setup
 restart_row : (a b c : Arrival) → IsReading a submitted → IsReading b (asks ttyS0) → IsReading c (asks ttyS1)
     → Follow start
-    (session_of other (b ∷ c ∷ []) (refused NoModem ∷ accepted (Given (hand 1 1 (codes "5550111") 1 2)) ∷ []) None
-    ∷ session_of settings (a ∷ []) (accepted (Submitted 1) ∷ []) None ∷ [])
+    (session_of other (b ∷ c ∷ []) (refused NoModem ∷ accepted (Given (hand 1 1 (codes "5550111") 1 2)) ∷ []) Nothing
+    ∷ session_of settings (a ∷ []) (accepted (Submitted 1) ∷ []) Nothing ∷ [])
     night
 restart_row a b c says_fax says_old says_new = (
   day,
@@ -64,16 +65,16 @@ one_list_row = refl
 -- ---- a session that was broken off, with the fax under way
 
 abbrev pub broken : Arrival → Session
-broken a = session_of settings [] [] (Some a)
+broken a = session_of settings [] [] (Unanswered a)
 
 -- it leaves the one or the other, and nothing else
 one_of_two_row : (a : Arrival) (left : Start) → IsSession start (broken a) left
     → (left ≡ start) ⊎ ((r : Reading) × IsReading a r × (left ≡ end_of settings start (r ∷ [])))
-one_of_two_row a left session = subst (λ heard. LeavesOff settings start heard (Some a) left) session.answered session.leaves
+one_of_two_row a left session = subst (λ heard. LeavesOff start (broken a) heard (Unanswered a) left) session.answered session.leaves
 
 -- it was taken, and the same again gets its reply, by the other setup
 taken_row : (a b : Arrival) → IsReading a submitted → IsReading b again
-    → Follow start (session_of other (b ∷ []) (accepted (Submitted 1) ∷ []) None ∷ broken a ∷ []) (end_of other day (again ∷ []))
+    → Follow start (session_of other (b ∷ []) (accepted (Submitted 1) ∷ []) Nothing ∷ broken a ∷ []) (end_of other day (again ∷ []))
 taken_row a b says_fax says_again = (
   day,
   (start, refl, record { heard = []; answered = refl; leaves = inr (submitted, says_fax, refl) }),
@@ -86,7 +87,7 @@ taken_once_row = refl
 
 -- or it was lost, and the same again is decided anew
 lost_row : (a b : Arrival) → IsReading b again
-    → Follow start (session_of other (b ∷ []) (accepted (Submitted 1) ∷ []) None ∷ broken a ∷ []) (end_of other start (again ∷ []))
+    → Follow start (session_of other (b ∷ []) (accepted (Submitted 1) ∷ []) Nothing ∷ broken a ∷ []) (end_of other start (again ∷ []))
 lost_row a b says_again = (
   start,
   (start, refl, record { heard = []; answered = refl; leaves = inl refl }),
@@ -105,5 +106,65 @@ no_session_row first last follow = follow
 
 -- what was under way was heard behind what was answered
 under_way_row : (a b : Arrival) → IsReading a submitted → IsReading b worker
-    → IsSession start (session_of settings (a ∷ []) (accepted (Submitted 1) ∷ []) (Some b)) (end_of settings start (worker ∷ submitted ∷ []))
+    → IsSession start (session_of settings (a ∷ []) (accepted (Submitted 1) ∷ []) (Unanswered b)) (end_of settings start (worker ∷ submitted ∷ []))
 under_way_row a b says_fax says_next = record { heard = submitted ∷ []; answered = inr (submitted, says_fax, refl, refl); leaves = inr (worker, says_next, refl) }
+
+-- ---- one that was answered 503
+
+-- it was taken after what was answered before it, where a refused request was heard since
+failed_row : (a b c : Arrival) → IsReading a submitted → IsReading b worker → IsReading c unknown_modem
+    → IsSession start (session_of settings (a ∷ b ∷ c ∷ []) (accepted (Submitted 1) ∷ refused Unavailable ∷ refused NoModem ∷ []) (Failed b))
+    (end_of settings start (worker ∷ unknown_modem ∷ submitted ∷ []))
+failed_row a b c says_fax says_next says_other = record {
+  heard = unknown_modem ∷ submitted ∷ [];
+  answered = inr (submitted, says_fax, refl, inl (refl, inr (unknown_modem, says_other, refl, refl)));
+  leaves = (
+    record {
+      before = a ∷ [];
+      after = c ∷ [];
+      one = refl;
+      replied = accepted (Submitted 1) ∷ [];
+      more = refused NoModem ∷ [];
+      answers = refl;
+      later = unknown_modem ∷ [];
+      earlier = submitted ∷ [];
+      parts = refl;
+      answered = inr (submitted, says_fax, refl, refl);
+      still = refl;
+    },
+    inr (worker, says_next, refl),
+  );
+}
+
+-- where one came, it was that one, it was answered 503, and nothing was taken
+only_failed_row : (s : Settings) (from : Start) (a b : Arrival) (reply : Response) (heard : List Reading) → HasFailed s from (a ∷ []) (reply ∷ []) heard b
+    → (a ≡ b) × (reply ≡ refused Unavailable) × (end_of s from heard ≡ from)
+only_failed_row s from a b reply heard failed = by failed.before failed.one failed.replied failed.answers failed.answered
+  where
+    none : {X : Type 0} (xs ys : List X) (x : X) → [] ≡ xs ++ x ∷ ys → ⊥
+    none [] ys x is = cc
+    none (y ∷ xs) ys x is = cc
+
+    by : (before : List Arrival) → a ∷ [] ≡ before ++ b ∷ failed.after → (replied : List Response) → reply ∷ [] ≡ replied ++ refused Unavailable ∷ failed.more
+        → IsRun s from [] before replied failed.earlier → (a ≡ b) × (reply ≡ refused Unavailable) × (end_of s from heard ≡ from)
+    by [] one [] answers answered = (cc, cc, failed.still ∙ ap (end_of s from) answered)
+    by [] one (other ∷ replied) answers answered = absurd answered
+    by (c ∷ before) one replied answers answered = absurd (none before failed.after b cc)
+
+-- so what was refused as busy, say, wasn't under way, and isn't found done
+refused_row : (a : Arrival) (left : Start) → ¬ IsSession start (session_of settings (a ∷ []) (refused NoModem ∷ []) (Failed a)) left
+refused_row a left session = by (only_failed_row settings start a a (refused NoModem) session.heard session.leaves.0).1
+  where
+    by : refused NoModem ≡ refused Unavailable → ⊥
+    by is = omega (arith, ap (λ (r : Response). r.status) is)
+
+-- nor was what was taken
+done_row : (a : Arrival) (left : Start) → ¬ IsSession start (session_of settings (a ∷ []) (accepted (Submitted 1) ∷ []) (Failed a)) left
+done_row a left session = by (only_failed_row settings start a a (accepted (Submitted 1)) session.heard session.leaves.0).1
+  where
+    by : accepted (Submitted 1) ≡ refused Unavailable → ⊥
+    by is = omega (arith, ap (λ (r : Response). r.status) is)
+
+-- whatever came was answered where nothing was under way, or one that failed
+all_answered_row : (a : Arrival) → AllAnswered Nothing × AllAnswered (Failed a) × ¬ AllAnswered (Unanswered a)
+all_answered_row a = (tt, tt, λ none. none)

@@ -5,7 +5,6 @@ use Rattle.std.specs.List.{AllByRecursion, AllZip, list_any}
 use Rattle.std.specs.Str.{bytes_eq}
 use Rattle.std.specs.Cmp.Lexicographic.{bytes_decides}
 use Rattle.std.proofs.lemmas.Bool.{and_from, and_parts, cases_Bool, eqb-true, not-true}
-use Rattle.sqlite_rules.specs.Lists.{Has}
 use Rattle.fax_job.specs.declared.refusal.Refusal.TheVariants.{FloorHigh, GivenUp, NumberReused, Unavailable}
 use Rattle.fax_ask.specs.Response.{Response, kept_response, refused_response}
 use Rattle.fax_core.specs.Clock.{decided_at}
@@ -17,12 +16,12 @@ use Rattle.fax_core.specs.Settings.{Settings}
 use Rattle.fax_core.proofs.PlaceLemmas.{either}
 use Rattle.fax_run.proofs.FedLemmas.{accepted_more, are_taken, goes_well, lawful_reading}
 use Rattle.fax_run.proofs.LedgerLemmas.{floors_rise, given_finds}
-use Rattle.fax_run.proofs.PastLemmas.{GoesOn, ends_joined, one_goes_on, refused_unkept, repeats, taken_by, taken_on, told, through, whole}
+use Rattle.fax_run.proofs.PastLemmas.{GoesOn, ends_joined, its_reply, one_goes_on, refused_unkept, repeats, taken_by, taken_on, told, through, whole}
 use Rattle.fax_run.proofs.RunLemmas.{is_free, raised_step}
 use Rattle.fax_run.specs.Laws.{AreAccepted}
 use Rattle.fax_run.specs.Reading.{Post, Reading, Faulty, Sees, Posts, IsReading}
 use Rattle.fax_run.specs.Run.{Fed, Start, IsRun, end_after, end_of, floors_after, is_new, is_of, is_taken, kept_after, queue_after, reply_to, takes, under, with_taken}
-use Rattle.fax_run.specs.Sessions.{Adds, AreAdded, CameIn, EachOnce, Follow, HasIts, HasReplyOf, IsAnsweredBy, IsSession, IsSettled, IsToldBy, LeavesOff, Session, SessionsHaveOneList, WasKept, all_of}
+use Rattle.fax_run.specs.Sessions.{Adds, AreAdded, CameIn, CameInTurn, EachOnce, Failed, Follow, HasIts, HasReplyOf, IsAnswered, IsAnsweredBy, IsSession, IsSettled, IsToldBy, LeavesOff, MayTake, Nothing, Session, SessionsHaveOneList, Unanswered, UnderWay, WasKept, WasUnderWay}
 use Rattle.fax_run.specs.Verdict.{Repeated, asked_above, decided_new, denied, is_too_high, new_asked, raised, reply_of, step_reply, taken_once, verdict, without_given}
 use Rattle.fax_run.specs.declared.arrival.Arrival.{Arrival}
 
@@ -196,23 +195,22 @@ has_its first earlier are s (Posts p) = its_own first earlier are s p
 
 -- ---- one session more
 
--- what holds of each of two lists holds of both
-each_of : {X : Type 0} (P : X → Type 0) (xs ys : List X) → AllByRecursion P xs → AllByRecursion P ys → AllByRecursion P (xs ++ ys)
-each_of P [] ys each others = others
-each_of P (x ∷ xs) ys each others = (each.0, each_of P xs ys each.1 others)
-
--- what a session adds to what it added, it added
-adds_on : (x : Session) (all some few : List Fed) → Adds x all some → Adds x some few → Adds x all few
-adds_on x all some few (more, is, each) (less, was, others) = (
-  more ++ less,
-  is ∙ ap (λ fs. more ++ fs) was ∙ sym (append_assoc more less few),
-  each_of (CameIn x) more less each others,
+-- what came in turn after some that came in turn came in turn with them
+in_turn_on : (first : Start) (x : Session) (some few before : List Fed) → CameInTurn first x some (few ++ before) → CameInTurn first x few before
+    → CameInTurn first x (some ++ few) before
+in_turn_on first x [] few before came others = others
+in_turn_on first x (f ∷ some) few before came others = (
+  subst (CameIn first x f) (sym (append_assoc some few before)) came.0,
+  in_turn_on first x some few before came.1 others,
 )
 
--- what came, came or was under way
-among : (arrivals : List Arrival) (o : Option Arrival) (a : Arrival) → Has arrivals a → Has (all_of arrivals o) a
-among arrivals None a has = has
-among arrivals (Some last) a has = inr has
+-- what a session adds to what it added, it added
+adds_on : (first : Start) (x : Session) (all some few : List Fed) → Adds first x all some → Adds first x some few → Adds first x all few
+adds_on first x all some few (more, is, each) (less, was, others) = (
+  more ++ less,
+  is ∙ ap (λ fs. more ++ fs) was ∙ sym (append_assoc more less few),
+  in_turn_on first x more less few (subst (CameInTurn first x more) was each) others,
+)
 
 module _ (first : Start) (before : List Fed) (x : Session) where
   abbrev s : Settings
@@ -235,24 +233,39 @@ module _ (first : Start) (before : List Fed) (x : Session) where
       accepted_on (r ∷ past) arrivals replies heard run (accepted_more s first (on past) r (lawful_reading a r reads) are)
   accepted_on past arrivals replies heard run are = absurd run
 
-  -- one more arrival adds what it posts, if that is taken
-  one_adds : (a : Arrival) (past : List Reading) (r : Reading) → Has (all_of x.arrivals x.under_way) a → IsReading a r → Adds x (on (r ∷ past)) (on past)
-  one_adds a past (Faulty refusal) has reads = ([], refl, tt)
-  one_adds a past (Sees moment what) has reads = ([], refl, tt)
-  one_adds a past (Posts p) has reads = by (is_taken first (on past) (under s p))
-    where
-      by : (b : Bool) → Adds x (if b then under s p ∷ on past else on past) (on past)
-      by true = (under s p ∷ [], refl, (record { arrival = a; came = has; posts = reads; settings = refl }, tt))
-      by false = ([], refl, tt)
+  -- how an arrival that is taken was answered, with this reply, or not
+  abbrev CameSo : Arrival → Response → Type 0
+  CameSo a reply = IsAnswered a reply x.arrivals x.replies ⊎ WasUnderWay a x.under_way
 
-  -- so do all of them
+  -- the reply to a post that is taken is that to its step
+  its_step : (past : List Reading) (p : Post) → is_taken first (on past) (under s p) ≡ true
+      → reply_of (verdict s (end_of s from past).queue (end_of s from past).kept (Posts p)) ≡ reply_to (end_after first (on past)) (under s p)
+  its_step past p taken =
+      ap (λ (e : Start). reply_of (verdict s e.queue e.kept (Posts p))) (sym (ends_joined s first before past)) ∙ its_reply first (on past) (under s p) taken
+
+  -- one more arrival adds what it posts, if that is taken
+  one_adds : (a : Arrival) (past : List Reading) (r : Reading) → CameSo a (reply_of (verdict s (end_of s from past).queue (end_of s from past).kept r)) → IsReading a r
+      → Adds first x (on (r ∷ past)) (on past)
+  one_adds a past (Faulty refusal) came reads = ([], refl, tt)
+  one_adds a past (Sees moment what) came reads = ([], refl, tt)
+  one_adds a past (Posts p) came reads = by (is_taken first (on past) (under s p)) refl
+    where
+      by : (b : Bool) → is_taken first (on past) (under s p) ≡ b → Adds first x (if b then under s p ∷ on past else on past) (on past)
+      by true taken = (under s p ∷ [], refl, (record { arrival = a; posts = reads; settings = refl; answered = subst (CameSo a) (its_step past p taken) came }, tt))
+      by false untaken = ([], refl, tt)
+
+  -- what was answered among these was answered in the session
+  abbrev AreOfSession : List Arrival → List Response → Type 0
+  AreOfSession arrivals replies = (a : Arrival) (reply : Response) → IsAnswered a reply arrivals replies → IsAnswered a reply x.arrivals x.replies
+
+  -- so all of them add what they post
   run_adds : (past : List Reading) (arrivals : List Arrival) (replies : List Response) (heard : List Reading)
-      → IsRun s from past arrivals replies heard → ((a : Arrival) → Has arrivals a → Has (all_of x.arrivals x.under_way) a) → Adds x (on heard) (on past)
+      → IsRun s from past arrivals replies heard → AreOfSession arrivals replies → Adds first x (on heard) (on past)
   run_adds past [] [] heard run came = ([], ap on run, tt)
-  run_adds past (a ∷ arrivals) (reply ∷ replies) heard (inl (lost, run)) came = run_adds past arrivals replies heard run (λ b has. came b (inr has))
+  run_adds past (a ∷ arrivals) (reply ∷ replies) heard (inl (lost, run)) came = run_adds past arrivals replies heard run (λ b other has. came b other (inr has))
   run_adds past (a ∷ arrivals) (reply ∷ replies) heard (inr (r, reads, is, run)) came =
-      adds_on x (on heard) (on (r ∷ past)) (on past) (run_adds (r ∷ past) arrivals replies heard run (λ b has. came b (inr has)))
-      (one_adds a past r (came a (inl refl)) reads)
+      adds_on first x (on heard) (on (r ∷ past)) (on past) (run_adds (r ∷ past) arrivals replies heard run (λ b other has. came b other (inr has)))
+      (one_adds a past r (subst (CameSo a) is (inl (came a reply (inl (refl, refl))))) reads)
   run_adds past arrivals replies heard run came = absurd run
 
   -- a reply there is told by the list
@@ -274,17 +287,17 @@ module _ (first : Start) (before : List Fed) (x : Session) where
 
   -- and so is each of its replies
   run_told : (all : List Fed) (past : List Reading) (arrivals : List Arrival) (replies : List Response) (heard : List Reading)
-      → IsRun s from past arrivals replies heard → ((a : Arrival) → Has arrivals a → Has (all_of x.arrivals x.under_way) a)
+      → IsRun s from past arrivals replies heard → AreOfSession arrivals replies
       → AreAccepted first (on past) → GoesOn all (on heard)
       → AllZip (λ a reply. (reply ≡ refused_response Unavailable NoKeys) ⊎ IsToldBy first all s a reply) arrivals replies
   run_told all past [] [] heard run came are goes = tt
   run_told all past (a ∷ arrivals) (reply ∷ replies) heard (inl (lost, run)) came are goes =
-      (inl lost, run_told all past arrivals replies heard run (λ b has. came b (inr has)) are goes)
+      (inl lost, run_told all past arrivals replies heard run (λ b other has. came b other (inr has)) are goes)
   run_told all past (a ∷ arrivals) (reply ∷ replies) heard (inr (r, reads, is, run)) came are goes =
-      let rest = run_adds (r ∷ past) arrivals replies heard run (λ b has. came b (inr has)) in
+      let rest = run_adds (r ∷ past) arrivals replies heard run (λ b other has. came b other (inr has)) in
       let now = through all (on heard) (on (r ∷ past)) goes (rest.0, rest.1) in (
         inr (told_on first all (on (r ∷ past)) now s a reply (told_here past a reply r are reads is)),
-        run_told all (r ∷ past) arrivals replies heard run (λ b has. came b (inr has)) (accepted_more s first (on past) r (lawful_reading a r reads) are) goes,
+        run_told all (r ∷ past) arrivals replies heard run (λ b other has. came b other (inr has)) (accepted_more s first (on past) r (lawful_reading a r reads) are) goes,
       )
   run_told all past arrivals replies heard run came are goes = run
 
@@ -307,13 +320,13 @@ module _ (first : Start) (x : Session) (earlier : List Session) (middle last : S
   accepted_heard = accepted_on first old.fed x [] x.arrivals x.replies session.heard session.answered old.accepted
 
   -- one session more has one list, where it leaves off behind this past
-  one_more : (past : List Reading) → AreAccepted first (since past) → Adds x (since past) (since session.heard)
+  one_more : (past : List Reading) → AreAccepted first (since past) → Adds first x (since past) (since session.heard)
       → last ≡ end_of x.settings (end_after first old.fed) past → OneList first (x ∷ earlier) last
   one_more past accepted adds is =
       let all = since past in
       let left = is ∙ sym (ends_joined x.settings first old.fed past) in
-      let came = among x.arrivals x.under_way in
-      let own = adds_on x all (since session.heard) old.fed adds (run_adds first old.fed x [] x.arrivals x.replies session.heard session.answered came) in
+      let came = λ (a : Arrival) (reply : Response) (has : IsAnswered a reply x.arrivals x.replies). has in
+      let own = adds_on first x all (since session.heard) old.fed adds (run_adds first old.fed x [] x.arrivals x.replies session.heard session.answered came) in
       record {
         fed = all;
         left = left;
@@ -325,13 +338,18 @@ module _ (first : Start) (x : Session) (earlier : List Session) (middle last : S
         );
       }
 
-  -- the same however it left off
-  by_end : (o : Option Arrival) → x.under_way ≡ o → LeavesOff x.settings (end_after first old.fed) session.heard o last → OneList first (x ∷ earlier) last
-  by_end None under_way is = one_more session.heard accepted_heard ([], refl, tt) is
-  by_end (Some a) under_way (inl is) = one_more session.heard accepted_heard ([], refl, tt) is
-  by_end (Some a) under_way (inr (r, reads, is)) =
+  -- where what was under way was taken, or lost
+  may_take : (a : Arrival) → WasUnderWay a x.under_way → MayTake x.settings (end_after first old.fed) session.heard a last → OneList first (x ∷ earlier) last
+  may_take a was (inl is) = one_more session.heard accepted_heard ([], refl, tt) is
+  may_take a was (inr (r, reads, is)) =
       one_more (r ∷ session.heard) (accepted_more x.settings first (since session.heard) r (lawful_reading a r reads) accepted_heard)
-      (one_adds first old.fed x a session.heard r (subst (λ (o : Option Arrival). Has (all_of x.arrivals o) a) (sym under_way) (inl refl)) reads) is
+      (one_adds first old.fed x a session.heard r (inr was) reads) is
+
+  -- the same however it left off
+  by_end : (o : UnderWay) → x.under_way ≡ o → LeavesOff (end_after first old.fed) x session.heard o last → OneList first (x ∷ earlier) last
+  by_end Nothing was is = one_more session.heard accepted_heard ([], refl, tt) is
+  by_end (Unanswered a) was is = may_take a (subst (WasUnderWay a) (sym was) refl) is
+  by_end (Failed a) was (failed, is) = may_take a (subst (WasUnderWay a) (sym was) refl) is
 
 -- all sessions have one list
 one_list : (first : Start) (sessions : List Session) (last : Start) → Follow first sessions last → OneList first sessions last
@@ -404,7 +422,7 @@ sessions_have_one_list first last sessions sound follow =
       added = it.added;
       accepted = it.accepted;
       once = each_once first it.fed it.accepted;
-      well = goes_well first.queue it.fed sound (are_taken first it.fed it.accepted);
+      well = goes_well first it.fed sound (are_taken first it.fed it.accepted);
       answered = it.answered;
       settled = settled first it.fed it.accepted;
     }

@@ -1,5 +1,6 @@
 -- What is proved of the definitions.
 use Rattle.std.specs.Prelude.{true, false, ⊤, ◌≡◌, ◌≢◌, ◌≤◌, ◌<◌, ℕ, List, [], ◌∷◌, All, ◌++◌, None, Some, Ok}
+use Rattle.fax_job.specs.declared.import.Import.{Import}
 use Rattle.fax_job.specs.declared.refusal.Refusal.TheVariants.{Unavailable}
 use Rattle.fax_ask.specs.Response.{Response, refused_response}
 use Rattle.fax_core.specs.Ask.{IsLawfulAsk}
@@ -7,8 +8,8 @@ use Rattle.fax_core.specs.Job.{Job}
 use Rattle.fax_core.specs.Laws.{HoldsOnce}
 use Rattle.fax_core.specs.Ledger.{Ledger, with_reply, kept_for, entry, IsKeptStatus, IsLawfulEntry}
 use Rattle.fax_core.specs.Queue.{Queue, empty_queue, grant_numbered}
-use Rattle.fax_core.specs.Reply.{Given, Handed, NoKeys, Reply, Taken}
-use Rattle.fax_core.specs.declared.ask.Ask.TheVariants.{Next, OnGrant}
+use Rattle.fax_core.specs.Reply.{Brought, Given, Handed, NoKeys, Reply, Taken}
+use Rattle.fax_core.specs.declared.ask.Ask.TheVariants.{Bring, Next, OnGrant}
 use Rattle.fax_core.specs.declared.report.Report.TheVariants.{Page}
 use Rattle.fax_core.specs.declared.ask.Ask.{Ask}
 use Rattle.fax_core.specs.declared.grants.Grant.{Grant}
@@ -17,7 +18,7 @@ use Rattle.fax_core.specs.Sound.{IsJob, Sound}
 use Rattle.fax_run.specs.Arrival.{number_of, said_of}
 use Rattle.fax_run.specs.Reading.{Post, Reading, Posts, IsReading, post_of}
 use Rattle.fax_run.specs.Counts.{brought_with, counters_of, counts, reports_of}
-use Rattle.fax_run.specs.Run.{Fed, Start, IsRun, end_of, is_taken, queue_after, reply_at, step_of, taken, takes, under}
+use Rattle.fax_run.specs.Run.{Fed, Start, IsRun, end_of, is_taken, kept_after, queue_after, reply_at, step_of, taken, takes, under}
 use Rattle.fax_run.specs.Verdict.{Verdict, Told, Repeated, Accepted, IsVerdict, reply_of, verdict, without_given}
 use Rattle.fax_run.specs.declared.arrival.Arrival.{Arrival}
 
@@ -194,12 +195,42 @@ NoPageTwice m fed = (newer between earlier : List Fed) (e f : Fed) (grant page :
 abbrev pub RunsSendOnce : Type 0
 RunsSendOnce = (m : Queue) (fed : List Fed) → Sound m → AreTaken m fed → NoPageTwice m fed
 
--- What holds behind requests that were taken: the queue is sound, a modem and a job hold one open grant at most, no page goes twice, each grant is as it was
--- given, and from the empty queue on the counters count.
-pub record GoesWell (m : Queue) (fed : List Fed) : Type 0 where
-  pub sound : Sound (queue_after m fed)
-  pub held_once : HoldsOnce (queue_after m fed)
-  pub sent_once : NoPageTwice m fed
-  pub grants_stay : (later earlier : List Fed) → fed ≡ later ++ earlier → KeepsGrants (queue_after m earlier) (queue_after m fed)
-  pub counted : m ≡ empty_queue → (number : ℕ) (j : Job) → IsJob (queue_after m fed) number j
+-- the request was taken: it brings in a job, under this number and with so many pages sent
+pub record BringsIn (m : Queue) (f : Fed) (job pages : ℕ) : Type 0 where
+  pub it : Import
+  pub asks : f.post.request.ask ≡ Bring it
+  pub state : ℕ
+  pub after : Queue
+  pub taken : step_of m f ≡ Taken after (Brought job state)
+  pub npages : it.npages ≡ pages
+
+-- after each import that was taken, each request that was taken goes past the pages that the job came in with as sent: none of them is granted or confirmed
+abbrev pub NoImportedPage : Queue → List Fed → Type 0
+NoImportedPage m fed = (newer between earlier : List Fed) (e f : Fed) (job pages : ℕ)
+    → fed ≡ newer ++ f ∷ (between ++ e ∷ earlier) → BringsIn (queue_after m earlier) e job pages
+    → GoesBehind (queue_after m (between ++ e ∷ earlier)) f job pages
+
+abbrev pub RunsSendNoImportedPage : Type 0
+RunsSendNoImportedPage = (m : Queue) (fed : List Fed) → Sound m → AreTaken m fed → NoImportedPage m fed
+
+-- the clock never goes back
+abbrev pub ClockRises : Queue → List Fed → Type 0
+ClockRises m fed = (later earlier : List Fed) → fed ≡ later ++ earlier → (queue_after m earlier).clock ≤ (queue_after m fed).clock
+
+-- and no floor of a client falls
+abbrev pub FloorsRise : Start → List Fed → Type 0
+FloorsRise start fed = (client : List ℕ) (later earlier : List Fed) → fed ≡ later ++ earlier
+    → (kept_after start earlier).floor client ≤ (kept_after start fed).floor client
+
+-- What holds after requests that were taken: the queue is sound, a modem and a job hold one open grant at most, no page goes twice, also none that came in as
+-- sent, each grant is as it was given, clock and floors only rise, and from the empty queue on the counters count.
+pub record GoesWell (start : Start) (fed : List Fed) : Type 0 where
+  pub sound : Sound (queue_after start.queue fed)
+  pub held_once : HoldsOnce (queue_after start.queue fed)
+  pub sent_once : NoPageTwice start.queue fed
+  pub imported : NoImportedPage start.queue fed
+  pub grants_stay : (later earlier : List Fed) → fed ≡ later ++ earlier → KeepsGrants (queue_after start.queue earlier) (queue_after start.queue fed)
+  pub clock : ClockRises start.queue fed
+  pub floors : FloorsRise start fed
+  pub counted : start.queue ≡ empty_queue → (number : ℕ) (j : Job) → IsJob (queue_after start.queue fed) number j
       → counters_of j ≡ counts (brought_with empty_queue number fed) (reports_of empty_queue number fed)

@@ -1,8 +1,7 @@
 -- Sessions: the program is started, serves, and is stopped or killed, over and over, by whatever setup and controls.
 -- Of sessions and of the requests that the machine was fed the newest comes first.
-use Rattle.std.specs.Prelude.{◌≡◌, ◌⊎◌, ⊤, true, false, nat_lt, List, [], ◌∷◌, ◌++◌, Option, Some, None}
+use Rattle.std.specs.Prelude.{◌≡◌, ◌⊎◌, ⊤, true, false, nat_lt, List, [], ◌∷◌, ◌++◌, Some}
 use Rattle.std.specs.List.{AllByRecursion, AllZip, list_any}
-use Rattle.sqlite_rules.specs.Lists.{Has}
 use Rattle.fax_job.specs.declared.refusal.Refusal.TheVariants.{Unavailable}
 use Rattle.fax_ask.specs.Response.{Response, kept_response, refused_response}
 use Rattle.fax_core.specs.Queue.{Entry}
@@ -18,23 +17,48 @@ use Rattle.fax_run.specs.declared.arrival.Arrival.{Arrival}
 
 -- ---- sessions
 
--- its setup and controls, what came and what was replied, and the arrival that was under way when it was broken off, if there was one
+-- what was under way when a session was broken off: nothing; an arrival after all others, not answered; or one of them, which was answered 503
+pub data UnderWay : Type 0 where
+  Nothing : UnderWay
+  Unanswered : (a : Arrival) → UnderWay
+  Failed : (a : Arrival) → UnderWay
+
+-- its setup and controls, what came and what was replied, and what was under way when it was broken off
 pub record Session : Type 0 where
   pub settings : Settings
   pub arrivals : List Arrival
   pub replies : List Response
-  pub under_way : Option Arrival
+  pub under_way : UnderWay
 
--- A session leaves where what it heard leads. What was under way was heard besides, or lost.
-abbrev pub LeavesOff : Settings → Start → List Reading → Option Arrival → Start → Type 0
-LeavesOff s from heard None left = left ≡ end_of s from heard
-LeavesOff s from heard (Some a) left = (left ≡ end_of s from heard) ⊎ ((r : Reading) × IsReading a r × (left ≡ end_of s from (r ∷ heard)))
+-- One of the arrivals was answered 503, and nothing was taken since.
+pub record HasFailed (s : Settings) (from : Start) (arrivals : List Arrival) (replies : List Response) (heard : List Reading) (a : Arrival) : Type 0 where
+  pub before : List Arrival
+  pub after : List Arrival
+  pub one : arrivals ≡ before ++ a ∷ after
+  pub replied : List Response
+  pub more : List Response
+  pub answers : replies ≡ replied ++ refused_response Unavailable NoKeys ∷ more
+  pub later : List Reading
+  pub earlier : List Reading
+  pub parts : heard ≡ later ++ earlier
+  pub answered : IsRun s from [] before replied earlier
+  pub still : end_of s from heard ≡ end_of s from earlier
+
+-- A session leaves where what it heard leads, or where that leads with this arrival.
+abbrev pub MayTake : Settings → Start → List Reading → Arrival → Start → Type 0
+MayTake s from heard a left = (left ≡ end_of s from heard) ⊎ ((r : Reading) × IsReading a r × (left ≡ end_of s from (r ∷ heard)))
+
+-- What was under way was taken, or lost.
+abbrev pub LeavesOff : Start → Session → List Reading → UnderWay → Start → Type 0
+LeavesOff from x heard Nothing left = left ≡ end_of x.settings from heard
+LeavesOff from x heard (Unanswered a) left = MayTake x.settings from heard a left
+LeavesOff from x heard (Failed a) left = HasFailed x.settings from x.arrivals x.replies heard a × MayTake x.settings from heard a left
 
 -- It was heard and answered from there, as a run by its settings, and left this.
 pub record IsSession (from : Start) (x : Session) (left : Start) : Type 0 where
   pub heard : List Reading
   pub answered : IsRun x.settings from [] x.arrivals x.replies heard
-  pub leaves : LeavesOff x.settings from heard x.under_way left
+  pub leaves : LeavesOff from x heard x.under_way left
 
 -- sessions follow one another, each from what the one before it left
 abbrev pub Follow : Start → List Session → Start → Type 0
@@ -43,27 +67,38 @@ Follow first (x ∷ earlier) last = (from : Start) × Follow first earlier from 
 
 -- ---- the list
 
--- what came in a session, and what was under way at its end
-abbrev pub all_of : List Arrival → Option Arrival → List Arrival
-all_of arrivals None = arrivals
-all_of arrivals (Some a) = a ∷ arrivals
+-- the arrival came in the session, and this was replied to it
+abbrev pub IsAnswered : Arrival → Response → List Arrival → List Response → Type 0
+IsAnswered a reply (b ∷ arrivals) (other ∷ replies) = ((b ≡ a) × (other ≡ reply)) ⊎ IsAnswered a reply arrivals replies
+IsAnswered a reply arrivals replies = ⊥
 
--- the request came in this session, and was fed by its settings
-pub record CameIn (x : Session) (f : Fed) : Type 0 where
+-- it was under way at the end
+abbrev pub WasUnderWay : Arrival → UnderWay → Type 0
+WasUnderWay a Nothing = ⊥
+WasUnderWay a (Unanswered b) = b ≡ a
+WasUnderWay a (Failed b) = b ≡ a
+
+-- The request came in this session, and was fed by its settings after the earlier ones. Its arrival was answered with the reply to its step there; or it was under way at the end.
+pub record CameIn (first : Start) (x : Session) (f : Fed) (earlier : List Fed) : Type 0 where
   pub arrival : Arrival
-  pub came : Has (all_of x.arrivals x.under_way) arrival
   pub posts : IsReading arrival (Posts f.post)
   pub settings : f.settings ≡ x.settings
+  pub answered : IsAnswered arrival (reply_to (end_after first earlier) f) x.arrivals x.replies ⊎ WasUnderWay arrival x.under_way
 
--- the list is the shorter one, with what came in this session behind it
-abbrev pub Adds : Session → List Fed → List Fed → Type 0
-Adds x fed before = (own : List Fed) × (fed ≡ own ++ before) × AllByRecursion (CameIn x) own
+-- each of these came in the session, after those before it
+abbrev pub CameInTurn : Start → Session → List Fed → List Fed → Type 0
+CameInTurn first x [] before = ⊤
+CameInTurn first x (f ∷ own) before = CameIn first x f (own ++ before) × CameInTurn first x own before
+
+-- the list is the shorter one, and then what came in this session
+abbrev pub Adds : Start → Session → List Fed → List Fed → Type 0
+Adds first x fed before = (own : List Fed) × (fed ≡ own ++ before) × CameInTurn first x own before
 
 -- each session went on from where a part of the list leads, and added to it
 abbrev pub AreAdded : Start → List Session → List Fed → Type 0
 AreAdded first [] fed = fed ≡ []
 AreAdded first (x ∷ earlier) fed =
-    (before : List Fed) × Adds x fed before × IsSession (end_after first before) x (end_after first fed) × AreAdded first earlier before
+    (before : List Fed) × Adds first x fed before × IsSession (end_after first before) x (end_after first fed) × AreAdded first earlier before
 
 -- no two have the same client and number
 abbrev pub EachOnce : List Fed → Type 0
@@ -122,7 +157,7 @@ pub record HaveOneList (first : Start) (sessions : List Session) (last : Start) 
   pub added : AreAdded first sessions fed
   pub accepted : AreAccepted first fed
   pub once : EachOnce fed
-  pub well : GoesWell first.queue fed
+  pub well : GoesWell first fed
   pub answered : AllByRecursion (IsAnsweredBy first fed) sessions
   pub settled : (p : Post) → IsSettled first fed p
 
@@ -132,6 +167,12 @@ SessionsHaveOneList = (first last : Start) (sessions : List Session) → Sound f
 
 -- ---- a run is a session
 
--- a session of these, and what was under way when it was broken off, if it was
-abbrev pub session_of : Settings → List Arrival → List Response → Option Arrival → Session
+-- whatever was under way at its end, each arrival was answered
+abbrev pub AllAnswered : UnderWay → Type 0
+AllAnswered Nothing = ⊤
+AllAnswered (Unanswered a) = ⊥
+AllAnswered (Failed a) = ⊤
+
+-- a session of these, and what was under way when it was broken off
+abbrev pub session_of : Settings → List Arrival → List Response → UnderWay → Session
 session_of s arrivals replies under_way = record { settings = s; arrivals = arrivals; replies = replies; under_way = under_way }

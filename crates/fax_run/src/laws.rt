@@ -3,7 +3,7 @@
 //! Such a function changes nothing: its contract is the law. The statements stand in
 //! `specs/Laws.antt`, `Sessions.antt` and `Progress.antt`.
 
-ghost use Rattle.fax_run.specs.Laws.{AcceptedOnce, CopiesLeaveNoTrace, CountersAreCounts, HasVerdict, NoVerdictIsUnavailable, NumbersHaveOneReply, OneReading, OneRun, OneVerdict, RepeatsGetTheirReply, RunsAreSound, RunsKeepGrants, RunsSendOnce, RunsSplit, RunsThread, UntakenLeaveNoTrace};
+ghost use Rattle.fax_run.specs.Laws.{AcceptedOnce, CopiesLeaveNoTrace, CountersAreCounts, HasVerdict, NoVerdictIsUnavailable, NumbersHaveOneReply, OneReading, OneRun, OneVerdict, RepeatsGetTheirReply, RunsAreSound, RunsKeepGrants, RunsSendNoImportedPage, RunsSendOnce, RunsSplit, RunsThread, UntakenLeaveNoTrace};
 ghost use Rattle.fax_run.specs.Progress.{BusyModemsFindTheirs, FreeModemsAreServed, OpenGrantsCanEnd, WaitingJobsGetReady};
 ghost use Rattle.fax_run.specs.Sessions.{SessionsHaveOneList};
 
@@ -79,10 +79,11 @@ pub fn counters()
 {}
 
 /// After a run from a sound queue the queue is sound, and a modem and a job hold one open grant at most. A page whose
-/// report was taken is in no later grant of its job, and isn't confirmed again.
+/// report was taken is in no later grant of its job, and isn't confirmed again. Neither is a page that came in as sent.
 pub fn no_page_twice()
     ensures sound { RunsAreSound }
     ensures sent { RunsSendOnce }
+    ensures imported { RunsSendNoImportedPage }
 {}
 
 /// A grant keeps its number, job, modem and pages over a run from a sound queue. No page confirmed under it is taken

@@ -1,11 +1,10 @@
 -- The program is started over and over on one database's files: from what these held at first to what a crash behind the last start leaves in them.
-use Rattle.std.specs.Prelude.{◌≡◌, ◌⊎◌, ⊤, ℕ, List, [], ◌∷◌, IfSome, IsTrue}
+use Rattle.std.specs.Prelude.{◌≡◌, ◌⊎◌, ⊤, ℕ, List, [], ◌∷◌, IsTrue}
 use Rattle.sqlite.specs.Effect.{Database, IsDatabase}
 use Rattle.sqlite.specs.Files.{HoldsDatabase, file_state}
 use Rattle.sqlite.specs.Held.{Held, AreDatabases}
 use Rattle.sqlite.specs.State.{HasCleanDisk}
 use Rattle.sqlite_disk.specs.declared.Disk.{Ghosts}
-use Rattle.sqlite_rules.specs.Lists.{Has}
 use Rattle.sqlite_store.specs.FileStore.{recovers, state, view}
 use Rattle.sqlite_store.specs.declared.store.FileStore.{FileStore}
 use Rattle.sqlite_wal.specs.Recovery.{Image}
@@ -16,7 +15,7 @@ use Rattle.fax_desk.specs.Turns.{AreArrivals, replies_of}
 use Rattle.fax_files.specs.Database.{AreHeld}
 use Rattle.fax_http.specs.Conversation.{Turn}
 use Rattle.fax_run.specs.Run.{Start}
-use Rattle.fax_run.specs.Sessions.{Follow, HaveOneList, IsSession, Session}
+use Rattle.fax_run.specs.Sessions.{AllAnswered, Follow, HaveOneList, IsSession, Session}
 use Rattle.fax_schema.specs.Schema.{AreOurs, no_tables}
 use Rattle.fax_tables.specs.Tables.{RowsMean}
 use Rattle.faxqd.specs.Serve.{ServesHeld}
@@ -41,12 +40,12 @@ HoldStart image start = HaveTables image start ⊎ HaveNone image start
 
 -- ---- one start of the program
 
--- the session has these settings, and its arrivals and replies are those of the messages; what was under way at its end is one of them
+-- the session has these settings, and its arrivals and replies are those of the messages; what was under way at its end was one of them, answered 503
 pub record IsOf (s : Settings) (turns : List Turn) (x : Session) : Type 0 where
   pub settings : x.settings ≡ s
   pub arrivals : AreArrivals turns x.arrivals
   pub replies : x.replies ≡ replies_of turns
-  pub under_way : IfSome x.under_way (Has x.arrivals)
+  pub under_way : AllAnswered x.under_way
 
 -- From whatever sound queue the first files held, such a session left what the second hold.
 abbrev pub LeadsFrom : Settings → List Turn → Image → Image → Type 0

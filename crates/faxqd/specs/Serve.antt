@@ -1,5 +1,5 @@
 -- How the command `serve` ends, and what it answers.
-use Rattle.std.specs.Prelude.{◌≡◌, ◌⊎◌, ℕ, Bool, true, false, List, [], None, Option, Ok}
+use Rattle.std.specs.Prelude.{◌≡◌, ◌⊎◌, ℕ, Bool, true, false, List, [], Option, Ok}
 use Rattle.sqlite.specs.Effect.{Database, IsDatabase}
 use Rattle.sqlite.specs.State.{State, HasCleanDisk}
 use Rattle.sqlite_trees.specs.Tree.{Trees}
@@ -13,7 +13,7 @@ use Rattle.fax_http.specs.Conversation.{Turn}
 use Rattle.fax_http.specs.Device.{Put}
 use Rattle.fax_http.specs.declared.device.Watched.{Watched}
 use Rattle.fax_run.specs.Run.{Start}
-use Rattle.fax_run.specs.Sessions.{IsSession, session_of}
+use Rattle.fax_run.specs.Sessions.{IsSession, Nothing, session_of}
 use Rattle.fax_once.specs.Ran.{LeftBySession}
 use Rattle.fax_run.specs.declared.arrival.Arrival.{Arrival}
 use Rattle.fax_store.specs.Adopt.{IsOurs}
@@ -44,7 +44,7 @@ module _ {C : Type 0} (gives : C → List ℕ → ℕ → C → Type 0) (setting
     pub are : AreArrivals turns arrivals
     pub end : Start
     pub answered : AreTurns gives settings start clock turns end
-    pub session : IsSession start (session_of settings arrivals (replies_of turns) None) end
+    pub session : IsSession start (session_of settings arrivals (replies_of turns) Nothing) end
     pub sound : Sound end.queue
     pub means : Means new end.queue end.kept
     pub stopped : (found : Trees) → MayFind new found → LeftBySession settings start arrivals (replies_of turns) found

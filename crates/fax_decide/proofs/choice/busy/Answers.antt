@@ -16,8 +16,8 @@ use Rattle.fax_decide.proofs.GivenLemmas.{hold_dials, hold_has_grant, hold_has_j
 use Rattle.fax_decide.proofs.LookingLemmas.{both, by_reading, goes_on}
 use Rattle.fax_decide.proofs.choice.busy.Goals as goal
 
-pub returns : goal.returns
-returns g c = goes_on (both (by_reading c.in_ok-grant.ensures.leaves c.in_ok-grant.ensures.answers) (by_reading c.in_ok-job.ensures.leaves c.in_ok-job.ensures.answers)) (λ m k at calls t one sound is same.
+pub returns-clause-found : goal.returns-clause-found
+returns-clause-found g c = goes_on (both (by_reading c.in_ok-grant.ensures.leaves c.in_ok-grant.ensures.answers) (by_reading c.in_ok-job.ensures.leaves c.in_ok-job.ensures.answers)) (λ m k at calls t one sound is same.
     let it : c.in-Some.grant ≡ one = same_Some _ _ (sym c.in-Some.is ∙ calls.0 ∙ hold_has_grant m c.args.modem.now one c.args.hold sound is same) in
     let Told = λ (x : Grant). OrNoAnswer c.held.result (λ d. d ≡ Refused (refused_response ModemBusy (HeldGrant (is_some x.call) (handed x (aged t m))))) in
     let found = sym c.in-Some-2.is ∙ calls.1 in
@@ -25,11 +25,11 @@ returns g c = goes_on (both (by_reading c.in_ok-grant.ensures.leaves c.in_ok-gra
     (ap (is_held_by c.args.modem.now c.in-Some-2.job) it ∙ hold_is_its m c.args.modem.now one c.args.hold sound is same c.in-Some-2.job found)
     (ap (λ (x : Grant). dial_of (job_numbered x.job (aged t m))) it ∙ hold_dials m c.args.modem.now one c.args.hold sound is same t c.in-Some-2.job found)))
 
-pub returns-in_default : goal.returns-in_default
-returns-in_default g c = goes_on (by_reading c.in_ok-grant.ensures.leaves c.in_ok-grant.ensures.answers) (λ m k at grant t one sound is same.
+pub returns-in_default-clause-found : goal.returns-in_default-clause-found
+returns-in_default-clause-found g c = goes_on (by_reading c.in_ok-grant.ensures.leaves c.in_ok-grant.ensures.answers) (λ m k at grant t one sound is same.
     absurd (none-some one (sym c.in_default.is ∙ grant ∙ hold_has_grant m c.args.modem.now one c.args.hold sound is same)))
 
-pub returns-in_default-2 : goal.returns-in_default-2
-returns-in_default-2 g c = goes_on (both (by_reading c.in_ok-grant.ensures.leaves c.in_ok-grant.ensures.answers) (by_reading c.in_ok-job.ensures.leaves c.in_ok-job.ensures.answers)) (λ m k at calls t one sound is same.
+pub returns-in_default-2-clause-found : goal.returns-in_default-2-clause-found
+returns-in_default-2-clause-found g c = goes_on (both (by_reading c.in_ok-grant.ensures.leaves c.in_ok-grant.ensures.answers) (by_reading c.in_ok-job.ensures.leaves c.in_ok-job.ensures.answers)) (λ m k at calls t one sound is same.
     absurd (none-some _ (sym c.in_default-2.is ∙ calls.1
     ∙ ap (option_map (λ j. brief (fields_of j))) (hold_has_job m c.args.modem.now one c.args.hold sound is same).1)))

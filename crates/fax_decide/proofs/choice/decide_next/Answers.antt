@@ -14,7 +14,7 @@ use Rattle.fax_decide.proofs.choice.decide_next.Goals as goal
 pub returns-in-Some : goal.returns-in-Some
 returns-in-Some g c =
     let looked = both (by_reading c.in_ok-is_down.ensures.leaves c.in_ok-is_down.ensures.answers) (by_reading c.in_ok-hold.ensures.leaves c.in_ok-hold.ensures.answers) in
-    gives (both looked c.busy.ensures) (λ m k at calls sound next.
+    gives (both looked c.busy.ensures.found) (λ m k at calls sound next.
     is_busy (settings_of c.args.office.now.setup c.args.office.now.controls) m c.args.t c.args.modem
     (sym (c.has_modem.ensures ∙ ap (has_modem c.args.office.now.setup) c.as_str.ensures.text) ∙ c.if-not-has_modem.false)
     (sym (calls.0.0 ∙ ap (λ (name : List ℕ). is_down name m) c.as_str-2.ensures.text) ∙ c.if-branch.false)

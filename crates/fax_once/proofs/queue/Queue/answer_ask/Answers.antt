@@ -8,7 +8,7 @@ use Rattle.fax_decide.specs.declared.fault.Fault.{Fault}
 use Rattle.fax_decide.specs.Settings.{settings_of}
 use Rattle.fax_decide.proofs.FaultLemmas.{if_answered, only_no_answer}
 use Rattle.fax_once.proofs.GetLemmas.{no_step}
-use Rattle.fax_once.proofs.SenderLemmas.{its_reply, sender_plain}
+use Rattle.fax_once.proofs.SenderLemmas.{its_floor, its_reply, sender_plain}
 use Rattle.fax_once.proofs.RequestLemmas.{view_answers, step_answers, sender_answers, where_open}
 use Rattle.fax_once.proofs.StopLemmas.{asked_stops}
 use Rattle.fax_once.proofs.CauseLemmas.{ask_read}
@@ -21,6 +21,7 @@ returns-in-View g c =
       leaves = record { office = c.show.ensures.office; clean = look.clean; unchanged = λ refused. look.stays };
       seen = λ get is. look.stays;
       repeated = λ db ours rests used. look.stays db ours rests;
+      given = λ db ours rests given. look.stays db ours rests;
       answered = λ m k sound means asks.
           let settings = settings_of c.args.self.now.office.setup c.args.self.now.office.controls in
           let new = state g.S.Store c.show.new.self.store.conn in
@@ -41,6 +42,7 @@ returns-in-Ok g c =
       leaves = c.step.ensures.leaves;
       seen = λ get is. absurd (no_step c.args.arrival.now.method c.args.arrival.now.path.now c.args.arrival.now.body.now c.in-Step.ask get (subst its c.in-Step.is is));
       repeated = λ db ours rests used. c.step.ensures.repeated db ours rests (its_reply c.args.arrival.now c.in-Ok.sender db from used);
+      given = λ db ours rests given. c.step.ensures.given db ours rests (its_floor c.args.arrival.now c.in-Ok.sender db from given);
       answered = λ m k sound means asks.
           let settings = settings_of c.args.self.now.office.setup c.args.self.now.office.controls in
           let old = state g.S.Store c.args.self.now.store.conn in
@@ -62,6 +64,7 @@ returns-in-Err g c = record {
   leaves = search rules;
   seen = λ get is db ours rests. rests;
   repeated = λ db ours rests used. rests;
+  given = λ db ours rests given. rests;
   answered = λ m k sound means asks. record {
     crash = λ found may. inl may;
     answers = λ clean. sender_answers {E = Fault} (Ok c.refused.result) (settings_of c.args.self.now.office.setup c.args.self.now.office.controls) c.args.arrival.now m k c.args.ask c.in-Step.ask c.in-Err.refusal

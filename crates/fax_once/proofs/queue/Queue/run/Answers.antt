@@ -9,7 +9,7 @@ use Rattle.fax_once.proofs.HandledLemmas.{run_sound, runs_on, runs_well, stops_a
 use Rattle.fax_once.proofs.SessionsLemmas.{runs_as_session}
 use Rattle.fax_once.proofs.queue.Queue.run.Goals as goal
 use Rattle.fax_once.specs.Ran.{HasRun}
-use Rattle.fax_once.specs.Stop.{Stops, StopsIn}
+use Rattle.fax_once.specs.Stop.{StopsAnswered, StopsIn}
 use Rattle.fax_run.specs.Run.{Start, end_of}
 use Rattle.fax_once.specs.Handled.{Handles}
 use Rattle.fax_run.specs.declared.arrival.Arrival.{Arrival}
@@ -51,7 +51,7 @@ loop-arrival-preserved g c =
           let here_sound = run_sound s start front replies old sound before.0 in
           let handled = subst (λ (o : Office). Handles (settings_of o.setup o.controls) c.arrival-item.result here.queue here.kept c.handle-reply.result new) c.loop-arrival.invariant.office
           (c.handle-reply.ensures.handled here.queue here.kept here_sound before.0.means clean) in
-          let stops = subst (λ (o : Office). Stops (settings_of o.setup o.controls) c.arrival-item.result here.queue here.kept old new) c.loop-arrival.invariant.office
+          let stops = subst (λ (o : Office). StopsAnswered (settings_of o.setup o.controls) c.arrival-item.result here.queue here.kept c.handle-reply.result old new) c.loop-arrival.invariant.office
           (c.handle-reply.ensures.crash here.queue here.kept here_sound before.0.means) in
           let on : StopsIn s start (front ++ c.arrival-item.result ∷ []) (replies ++ c.handle-reply.result ∷ []) initial new = (
             runs_on s start front replies c.arrival-item.result c.handle-reply.result old new before.0 handled,

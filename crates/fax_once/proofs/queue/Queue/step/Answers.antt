@@ -6,6 +6,7 @@ use Rattle.fax_store.proofs.FrameLemmas.{looks_of, looks_then, means_now}
 use Rattle.fax_store.specs.Kept.{IsKeptFor, MissesNone}
 use Rattle.fax_store.specs.Store.{Serves}
 use Rattle.fax_once.proofs.CauseLemmas.{gave_out, nothing_comes, unkept_by}
+use Rattle.fax_once.proofs.SenderLemmas.{given_not_above}
 use Rattle.fax_once.proofs.StopLemmas.{then_stops}
 use Rattle.fax_once.proofs.VerdictLemmas.{above_is, given_up_is, repeated_leaves, unused_is}
 use Rattle.fax_once.specs.Handled.{Leaves, LeavesBy}
@@ -18,6 +19,7 @@ returns-in_err-floor g c =
     record {
       leaves = search rules;
       repeated = λ db ours rests used. look.stays db ours rests;
+      given = λ db ours rests given. look.stays db ours rests;
       comes = λ m k sound means asks. nothing_comes g.S.Store _ _ given.result m k _ look means given.ensures.0
           (λ serves. gave_out given.result c.in_err-floor.field-0.0 given.ensures.1 (c.in_err-floor.ensures.answers m k (means_now means) serves));
     }
@@ -28,6 +30,7 @@ returns-then-get-floor g c =
     record {
       leaves = search rules;
       repeated = λ db ours rests used. look.stays db ours rests;
+      given = λ db ours rests given. look.stays db ours rests;
       comes = λ m k sound means asks.
           let settings = settings_of c.args.self.now.office.setup c.args.self.now.office.controls in
           let through : c.args.sender.now.number ≤ c.in_ok-floor.floor = search rules in
@@ -49,6 +52,7 @@ returns-in_err-kept g c =
     record {
       leaves = record { office = search rules; clean = look.clean; unchanged = λ refused. look.stays };
       repeated = λ db ours rests used. look.stays db ours rests;
+      given = λ db ours rests given. look.stays db ours rests;
       comes = λ m k sound means asks. nothing_comes g.S.Store _ _ given.result m k _ look means given.ensures.0
           (λ serves. gave_out given.result c.in_err-kept.field-0.0 given.ensures.1
           (c.in_err-kept.ensures.answers m k (means_now (means_stay first.served first.stays m k means)) serves));
@@ -61,6 +65,7 @@ returns-in-Some g c =
     record {
       leaves = record { office = search rules; clean = look.clean; unchanged = λ refused. look.stays };
       repeated = λ db ours rests used. look.stays db ours rests;
+      given = λ db ours rests given. look.stays db ours rests;
       comes = λ m k sound means asks.
           let settings = settings_of c.args.self.now.office.setup c.args.self.now.office.controls in
           let floor = c.in_ok-floor.floor in
@@ -95,6 +100,11 @@ returns-in-None g c =
           let read = opens (c.step_once.ensures.leaves.clean serves.clean) in
           absurd (subst (MissesNone db c.args.sender.now.client.now c.args.sender.now.number) c.in-None.is
           (c.in_ok-kept.ensures.stands db ours (first.stays db ours rests (c.kept.ensures.leaves.served read)).now read.clean) used);
+      given = λ db ours rests given serves.
+          let read = c.kept.ensures.leaves.served (opens (c.step_once.ensures.leaves.clean serves.clean)) in
+          let above : c.in_ok-floor.floor < c.args.sender.now.number = search rules in
+          absurd (given_not_above db c.args.sender.now.client.now c.args.sender.now.number c.in_ok-floor.floor
+          (c.in_ok-floor.ensures.stands db ours (rests (c.floor.ensures.leaves.served read)).now read.clean) given above);
       comes = λ m k sound means asks.
           let settings = settings_of c.args.self.now.office.setup c.args.self.now.office.controls in
           let floor = c.in_ok-floor.floor in

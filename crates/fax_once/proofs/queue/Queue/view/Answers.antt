@@ -11,5 +11,5 @@ returns-clause-stays g c = c.handle.ensures.seen c.get-arrival.ensures.method
 
 pub returns-clause-crash : goal.returns-clause-crash
 returns-clause-crash g c m k sound means =
-    gets_nothing (settings_of c.args.self.now.office.setup c.args.self.now.office.controls) c.get-arrival.result m k (state g.S.Store c.args.self.now.store.conn) (state g.S.Store c.handle.new.self.store.conn)
+    gets_nothing (settings_of c.args.self.now.office.setup c.args.self.now.office.controls) c.get-arrival.result m k c.handle.result (state g.S.Store c.args.self.now.store.conn) (state g.S.Store c.handle.new.self.store.conn)
     c.get-arrival.ensures.method (c.handle.ensures.crash m k sound means)
