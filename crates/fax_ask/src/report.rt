@@ -60,7 +60,7 @@ pub(crate) fn read_upto(alloc: Global, body: &[u8]) -> Result<RequestNumber, Ref
     }
 }
 
-/// The outcome with a reason of its own. The only error is want of memory.
+/// The outcome with a reason of its own. The only error is out of memory.
 fn keep_reason(alloc: Global, outcome: OutcomeText<'_>) -> Result<Outcome, AllocError>
     requires { IsStatus outcome.reason.now }
     ensures { IfOk result (λ kept. kept ≡ outcome_read outcome.entry) }

@@ -92,7 +92,7 @@ StaysBlocked moved before t = moved ≡ false → before.is_blocked ≡ true →
 abbrev pub HasWritten : Link → Bool → Talk → Type 0
 HasWritten link moved t = moved ≡ false → is_owing link ≡ true → t.is_blocked ≡ true
 
--- what is known behind a read, where `before` was known: whether nothing more is there, as many answers as before, and whether its peer still takes nothing
+-- what is known after a read, where `before` was known: whether nothing more is there, as many answers as before, and whether its peer still takes nothing
 abbrev pub HasTaken : Link → Bool → Talk → Talk → Type 0
 HasTaken link moved before t = (moved ≡ false → awaits link ≡ true → t.is_dry ≡ true) × (t.replies ≡ before.replies) × StaysBlocked moved before t
 

@@ -108,7 +108,7 @@ IsOwing t = (left : List ℕ) × (0 < length left) × (owed t ≡ t.took ++ left
 
 -- ---- what each act has to fit
 
--- it is there, its messages are those of what it said, another may follow, and these bytes stand behind them
+-- it is there, its messages are those of what it said, another may follow, and these bytes follow them
 pub record GoesOn (t : Talk) (rest : List ℕ) : Type 0 where
   pub is_there : t.is_open ≡ true
   pub reads : Reads t.said t.turns rest

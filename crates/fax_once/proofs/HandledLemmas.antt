@@ -49,7 +49,7 @@ module _ (settings : Settings) (a : Arrival) (m : Queue) (k : Ledger) (reply : R
 -- ---- one more arrival
 
 -- a verdict is answered, and the store has where it leads
-leaves_at : (here : Start) (reply : Response) (store : State) (v : Verdict) → Leaves here.queue here.kept reply store v → (reply ≡ reply_of v) × Means store (left_of here v).queue (left_of here v).kept
+pub leaves_at : (here : Start) (reply : Response) (store : State) (v : Verdict) → Leaves here.queue here.kept reply store v → (reply ≡ reply_of v) × Means store (left_of here v).queue (left_of here v).kept
 leaves_at here reply store (Told told) (is, rest) = (is, rest)
 leaves_at here reply store (Repeated told) (is, serves, rest) = (is, λ _. rest)
 leaves_at here reply store (Accepted after kept told) (is, serves, rest, sound) = (is, λ _. rest)

@@ -16,12 +16,13 @@ use Rattle.fax_core.specs.Settings.{Settings}
 use Rattle.fax_core.specs.Sound.{Sound}
 use Rattle.fax_core.proofs.StepLemmas.{empty_sound}
 use Rattle.fax_run.specs.Laws.{NoVerdictIsUnavailable}
-use Rattle.fax_run.specs.Verdict.{Verdict, Told, Repeated, Accepted, IsVerdict, reply_of}
+use Rattle.fax_run.specs.Verdict.{Verdict, IsVerdict}
 use Rattle.fax_run.specs.declared.arrival.Arrival.{Arrival}
 use Rattle.fax_store.specs.Shut.{SaysShut as Says, shut_by}
 use Rattle.fax_store.specs.Store.{Means}
 use Rattle.fax_tables.specs.declared.fault.StoreFault.{StoreFault}
 use Rattle.fax_once.specs.Handled.{IsUnknown, Leaves, SaysShut}
+use Rattle.fax_once.proofs.HandledLemmas.{leaves_at}
 
 module _ (old new : State) (result : Result Bool StoreFault) (says : Bool) (is : result ≡ Ok true → says ≡ true) where
   -- the queue says so by what the store says of an error, unless that has another cause
@@ -40,19 +41,13 @@ module _ (old new : State) (result : Result Bool StoreFault) (says : Bool) (is :
   says_shut (inr (e, told, inl (why, same))) shut = absurd (true≢false (sym same.0.is_open ∙ shut))
   says_shut (inr (e, told, inr (cause, named, has, undone, tells))) shut = by_cause e told cause named tells
 
--- what is answered by a verdict is its reply
-its_reply : (m : Queue) (k : Ledger) (reply : Response) (s : State) (v : Verdict) → Leaves m k reply s v → reply ≡ reply_of v
-its_reply m k reply s (Told told) leaves = leaves.0
-its_reply m k reply s (Repeated told) leaves = leaves.0
-its_reply m k reply s (Accepted after kept told) leaves = leaves.0
-
 module _ (s : Settings) (a : Arrival) (reply : Response) (old new : State) (none : NoVerdictIsUnavailable) (clean : HasCleanDisk old)
     (answered : (m : Queue) (k : Ledger) → Sound m → Means old m k → (v : Verdict) × IsVerdict s a m k v × Leaves m k reply new v) where
   -- no verdict's reply is 503, whichever sound queue the tables mean
   not_failed : (m : Queue) (k : Ledger) → Sound m → Means old m k → All IsLawfulEntry k.replies → reply ≡ refused_response Unavailable NoKeys → ⊥
   not_failed m k sound means lawful failed =
       let it = answered m k sound means in
-      none s a m k it.0 sound lawful it.1 (ap (λ (r : Response). r.status) (sym (its_reply m k reply new it.0 it.2) ∙ failed))
+      none s a m k it.0 sound lawful it.1 (ap (λ (r : Response). r.status) (sym (leaves_at (record { queue = m; kept = k }) reply new it.0 it.2).0 ∙ failed))
 
   -- so none is that is answered: of a store that is shut already, the tables mean the empty queue too
   pub never_failed : (m : Queue) (k : Ledger) → Sound m → Means old m k → reply ≡ refused_response Unavailable NoKeys → ⊥

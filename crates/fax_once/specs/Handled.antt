@@ -62,7 +62,7 @@ pub record IsGivenUp (a : Arrival) (db : Database) : Type 0 where
   pub under : number_of a ≡ Ok number
   pub reaches : ReachesTo db a.client.now number
 
--- the engine failed as it was asked, and not since its database is shut: for want of memory, say
+-- SQLite failed as it was asked, and not since its database is shut: it ran out of memory, for example
 pub record IsUnknown (s : State) : Type 0 where
   pub cause : StoreError
   pub other : cause ≢ Broken

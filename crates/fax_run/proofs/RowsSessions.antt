@@ -151,7 +151,7 @@ only_failed_row s from a b reply heard failed = by failed.before failed.one fail
     by [] one (other ∷ replied) answers answered = absurd answered
     by (c ∷ before) one replied answers answered = absurd (none before failed.after b cc)
 
--- so what was refused as busy, say, wasn't under way, and isn't found done
+-- so what was refused wasn't under way
 refused_row : (a : Arrival) (left : Start) → ¬ IsSession start (session_of settings (a ∷ []) (refused NoModem ∷ []) (Failed a)) left
 refused_row a left session = by (only_failed_row settings start a a (refused NoModem) session.heard session.leaves.0).1
   where

@@ -269,7 +269,7 @@ module _ {S : Type 0} (g : Ghosts S) where
         let tells = tells_by {P = P} finds answers in
         record { leaves = tells.leaves; keeps = tells.keeps; found = tells.found; lawful = lawful }
 
-    -- so is one that tells of the rows too
+    -- so is one that speaks of the rows too
     pub tells_rows_by : {P : Queue → Ledger → A → Type 0} {Q : Database → A → Type 0} → Finds g old.store.now next result → Answers g old.store.now next result P
         → AnswersRows g old.store.now next result Q → TellsRows g old (after old next failed) result P Q
     tells_rows_by {P} {Q} finds answers stands =

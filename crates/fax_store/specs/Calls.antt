@@ -218,7 +218,7 @@ module _ {S : Type 0} (g : Ghosts S) where
     pub found : AnswersIn (within old) old.failed (within new) result P
     pub stands : AnswersRows old.store.now new.store.now result Q
 
-  -- The same, and the answer by itself is lawful.
+  -- The same, and the answer by itself is valid.
   pub record TellsRowsLawful {A : Type 0} (old new : Work S) (result : Result A StoreFault) (P : Queue → Ledger → A → Type 0) (Q : Database → A → Type 0) (Lawful : A → Type 0) : Type 0 where
     pub leaves : Calls old new result
     pub keeps : Keeps (within old) old.failed (within new) new.failed
