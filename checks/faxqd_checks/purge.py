@@ -8,8 +8,8 @@ import sys
 import time
 
 from .runner import group
-from .shared import (CLOSE, EXAMPLES, PATIENCE, Server, answer_to, attempt, database_of, expect, free_port, get, option, post,
-                     rows_of)
+from .shared import (CLOSE, EXAMPLES, PATIENCE, Server, answer_to, attempt, database_of, expect, expect_same, free_port, get, option, post,
+                     rows_of, run)
 
 check = group("purge", "Has examples/purge take out of a stopped file what is over, and nothing else, also where it is "
               "killed.", "waiting")
@@ -120,6 +120,7 @@ def what_is_over(folder):
     expect(queue.file.stat().st_size < size, "the file isn't smaller")
     expect(queue.rows("SELECT job FROM jobs ORDER BY job") == [(tried,), (held,), (waiting,), (young,)], "other jobs are left")
     expect(queue.rows("SELECT id FROM grants WHERE shut = 0") == [(grant,)], "an open grant is gone")
+    expect_same(run("check", "--db", queue.file)[:3], (0, b"faxqd: sound\n", b""), "'check' after the purge")
     with queue.serving():
         for job in before:
             expect(queue.show(job) == before[job], f"job {job} isn't as it was")

@@ -4,7 +4,7 @@ use Rattle.std.specs.List.{AllByRecursion}
 use Rattle.std.specs.List.Sorted.{IsPermutation}
 use Rattle.std.proofs.lemmas.List.Elements.{All-append, All-cons, All-from_recursion, All-nil, recursion_from_All}
 use Rattle.std.proofs.lemmas.List.{take_more}
-use Rattle.std.proofs.lemmas.List.Sorted.{All-permutation, length_permutation}
+use Rattle.std.proofs.lemmas.List.Sorted.{All-permutation}
 use Rattle.sqlite.specs.Effect.{Database}
 use Rattle.sqlite.specs.Order.{Row, column}
 use Rattle.sqlite.specs.Program.{overlay}
@@ -23,7 +23,6 @@ use Rattle.fax_schema.proofs.EditLemmas.{has_mapped, has_permuted}
 use Rattle.fax_schema.proofs.SelectLemmas.{answers, passes, show}
 use Rattle.fax_schema.proofs.StatementForms.{Selects}
 use Rattle.fax_schema.specs.Schema.{our_tables}
-use Rattle.fax_tables.proofs.IndexLemmas.{length_map}
 
 -- a row as a job's stands, of one as it is shown
 abbrev pub unshown_job : Row → Row
@@ -87,10 +86,6 @@ module _ (sql : List ℕ) (tree : ℕ) (project : List Term) (names : List (List
   all_shown =
       let all : filter (passes tree [] project []) (db.trees tree) ≡ db.trees tree = filter_all (passes tree [] project []) (db.trees tree) (all_of (λ r. passes tree [] project [] r ≡ true) (λ r. refl) (db.trees tree)) in
       subst (λ (rs : List Row). IsPermutation (map of rs) rows) all (shows sql tree [] project names selects plain [] old new db ours now rows shown)
-
-  -- there are as many
-  pub as_many : length rows ≡ length (db.trees tree)
-  as_many = length_permutation (map of (db.trees tree)) rows all_shown ∙ length_map of (db.trees tree)
 
   -- what holds of all that is shown holds of each row as it is shown
   pub each_shown : (P : Row → Type 0) → All P rows → Each db tree (λ r. P (of r))

@@ -1,6 +1,5 @@
 -- Lists that are made of records, numbers that rise, and lists that have the same elements.
 use Rattle.std.proofs.Common.{◌≡◌, ◌≢◌, inl, inr, ◌+◌, ◌<◌, ◌≤◌, ℕ, pos, List, [], ◌∷◌, ◌++◌, map, drop, length, All, refl, sym, ap, ap₂, subst, ◌∙◌, arith}
-use Rattle.std.specs.List.{range_with_len}
 use Rattle.std.specs.List.Sorted.{IsPermutation}
 use Rattle.std.specs.Ordering.{int_cmp}
 use Rattle.std.specs.declared.cmp.Ordering.TheVariants.{Less}
@@ -15,6 +14,7 @@ use Rattle.sqlite_trees.specs.Tree.{IsAscending}
 use Rattle.sqlite_trees.proofs.ListLemmas.{along_permutation, ascending_from_map, ascending_weaker}
 use Rattle.sqlite_value.specs.Order.{value_cmp}
 use Rattle.sqlite_value.proofs.OrderLemmas.{value_cmp-Int}
+use Rattle.fax_core.specs.Sound.{AscendBetween}
 use Rattle.fax_schema.proofs.EditLemmas.{has_mapped, has_permuted}
 use Rattle.fax_tables.specs.Row.{number}
 
@@ -64,30 +64,12 @@ one_there (x ∷ xs) some = (x, inl refl)
 -- ---- numbers that rise
 
 module _ {X : Type 0} (num : X → ℕ) where
-  -- from a first one to before a last there are no more than lie between
-  few : (low high : ℕ) (xs : List X) → IsAscending (λ x y. num x < num y) xs → ((x : X) → Has xs x → (low ≤ num x) × (num x < high)) → low ≤ high → length xs + low ≤ high
-  few low high [] rise within base = omega (arith, base)
-  few low high (x ∷ xs) rise within base =
+  -- where each lies between two bounds, they ascend between them
+  pub ascend : (low high : ℕ) (xs : List X) → IsAscending (λ x y. num x < num y) xs → ((x : X) → Has xs x → (low < num x) × (num x < high)) → low < high → AscendBetween low (map num xs) high
+  ascend low high [] rise within base = base
+  ascend low high (x ∷ xs) rise within base =
       let first = within x (inl refl) in
-      let later : (y : X) → Has xs y → (num x + 1 ≤ num y) × (num y < high) = λ y has. (
-        (let more = all_has (λ z. num x < num z) xs y rise.0 has in omega (arith, more)),
-        (within y (inr has)).1,
-      ) in
-      let rest = few (num x + 1) high xs rise.1 later (omega (arith, first.1)) in
-      omega (arith, rest, first.0)
-
-  -- where there are as many as lie between, they are all those
-  pub numbered : (low : ℕ) (xs : List X) → IsAscending (λ x y. num x < num y) xs → ((x : X) → Has xs x → (low ≤ num x) × (num x < length xs + low)) → map num xs ≡ range_with_len low (length xs)
-  numbered low [] rise within = refl
-  numbered low (x ∷ xs) rise within =
-      let first = within x (inl refl) in
-      let above : (y : X) → Has xs y → num x < num y = λ y has. all_has (λ z. num x < num z) xs y rise.0 has in
-      let most = few (num x + 1) (length xs + 1 + low) xs rise.1
-      (λ y has. ((let more = above y has in omega (arith, more)), (let low_enough = (within y (inr has)).1 in omega (arith, low_enough)))) (omega (arith, first.1)) in
-      let here : num x ≡ low = omega (arith, most, first.0) in
-      let rest = numbered (low + 1) xs rise.1
-      (λ y has. ((let more = above y has in omega (arith, more, here)), (let low_enough = (within y (inr has)).1 in omega (arith, low_enough)))) in
-      ap₂ ◌∷◌ here rest
+      (first.0, ascend (num x) high xs rise.1 (λ y has. (all_has (λ z. num x < num z) xs y rise.0 has, (within y (inr has)).1)) first.1)
 
 -- the numbers of records rise where they stand in rows by number
 pub rising : {X : Type 0} (row : X → Row) (num : X → ℕ) → ((x : X) → rowid (row x) ≡ number (num x)) → (xs : List X) → IsTable (map row xs) → IsAscending (λ x y. num x < num y) xs

@@ -1,7 +1,7 @@
 -- Where the rows mean a sound queue, each is as it has to be.
-use Rattle.std.proofs.Common.{◌≡◌, inl, inr, ℕ, pos, ◌+◌, ◌<◌, ◌≤◌, List, [], ◌∷◌, map, filter, drop, length, All, Bool, true, false, Option, Some, None, refl, sym, ap, subst, ◌∙◌, arith}
+use Rattle.std.proofs.Common.{◌≡◌, inl, inr, ℕ, pos, ◌<◌, ◌≤◌, List, [], ◌∷◌, map, filter, drop, length, All, Bool, true, false, Option, Some, None, refl, sym, ap, subst, ◌∙◌, arith}
 use Rattle.std.specs.Prelude.{◌==◌}
-use Rattle.std.specs.List.{list_any, range_with_len}
+use Rattle.std.specs.List.{list_any}
 use Rattle.std.specs.List.Sorted.{IsPermutation}
 use Rattle.std.specs.Str.{bytes_eq}
 use Rattle.std.proofs.lemmas.Bool.{both_ways, cases_Bool, eq-eqb, eqb-true}
@@ -19,11 +19,12 @@ use Rattle.sqlite_rules.proofs.ListLemmas.{all_from, all_has, has_filtered, has_
 use Rattle.sqlite_rules.proofs.ProbeLemmas.{mapped_has}
 use Rattle.sqlite_trees.proofs.ListLemmas.{IsPermutation-filter, filter-map, filter_same}
 use Rattle.fax_core.proofs.FitsLemmas.{fits_decides, job_again}
+use Rattle.fax_core.proofs.PlaceLemmas.{ascend_few}
 use Rattle.fax_core.specs.Fits.{is_granted}
 use Rattle.fax_core.specs.Job.{Job, fields_of, job_of}
 use Rattle.fax_core.specs.Ledger.{Ledger, IsLawfulEntry}
 use Rattle.fax_core.specs.Queue.{Queue, grant_numbered, job_numbered, open_grants}
-use Rattle.fax_core.specs.Sound.{FitsFree, FitsGrant, IsJob, IsOpen, Sound}
+use Rattle.fax_core.specs.Sound.{AscendBetween, FitsFree, FitsGrant, IsJob, IsOpen, Sound}
 use Rattle.fax_core.specs.State.{calls_to, is_of_number}
 use Rattle.fax_core.specs.declared.grants.Grant.{Grant}
 use Rattle.fax_value.specs.Name.{IsName}
@@ -41,14 +42,14 @@ use Rattle.fax_check.specs.Whole.{IsWholeTable, passed, Holder, IsCallRow, IsDow
 
 -- ---- lists
 
--- what is in a numbered list has a number before the next
-before_next : {X : Type 0} (num : X → ℕ) (a : ℕ) (xs : List X) (x : X) → map num xs ≡ range_with_len a (length xs) → Has xs x → num x < a + length xs
-before_next num a [] x e has = absurd has
-before_next num a (y ∷ ys) x e (inl is) = let head : num y ≡ a = cc in let same : num x ≡ num y = ap num is in omega arith
-before_next num a (y ∷ ys) x e (inr more) =
-    let rest : map num ys ≡ range_with_len (a + 1) (length ys) = cc in
-    let later = before_next num (a + 1) ys x rest more in
-    omega arith
+-- what is in a list whose numbers ascend has one below the upper bound
+before_next : {X : Type 0} (num : X → ℕ) (low high : ℕ) (xs : List X) (x : X) → AscendBetween low (map num xs) high → Has xs x → num x < high
+before_next num low high [] x ascend has = absurd has
+before_next num low high (y ∷ ys) x ascend (inl is) =
+    let few = ascend_few num (num y) high ys ascend.1 in
+    let same : num x ≡ num y = ap num is in
+    omega (arith, few, same)
+before_next num low high (y ∷ ys) x ascend (inr more) = before_next num (num y) high ys x ascend.1 more
 
 -- a list that has something isn't empty
 some_long : {X : Type 0} (xs : List X) (x : X) → Has xs x → 1 ≤ length xs
@@ -226,7 +227,7 @@ module _ (db : Database) (m : Queue) (k : Ledger) (means : TablesMean db m k) wh
           grant = it.0;
           is = it.2;
           lawful = of_all IsLawfulGrant m.grants it.0 means.lawful.grants it.1;
-          before = let low = before_next (λ (x : Grant). x.number) 1 m.grants it.0 sound.grants it.1 in omega (arith, low, sound.next_grant);
+          before = before_next (λ (x : Grant). x.number) 0 m.next_grant m.grants it.0 sound.grants it.1;
           is_held = is_held it.0 it.1;
         }
 
@@ -264,7 +265,7 @@ module _ (db : Database) (m : Queue) (k : Ledger) (means : TablesMean db m k) wh
           job = fields_of it.0;
           is = it.2;
           lawful = subst IsLawfulJob (sym (again it.0 it.1)) (lawful_job it.0 it.1);
-          before = let low = before_next (λ (x : Job). x.number) 1 m.jobs it.0 sound.jobs it.1 in omega (arith, low, sound.next_job);
+          before = before_next (λ (x : Job). x.number) 0 m.next_job m.jobs it.0 sound.jobs it.1;
           stands = stands it.0 it.1;
         }
 
@@ -326,9 +327,9 @@ sound_rows_are_whole db m k held means sound same right = record {
   holders = same;
   right = right;
   tables = All-from_recursion (IsWholeTable (meta_of m) held db) passed (
-    (grant_is db m k means sound held same, ap (λ n. n + 1) (ap (λ rows. length rows) means.grants ∙ length-map m.grants grant_row) ∙ sym sound.next_grant),
+    grant_is db m k means sound held same,
     (
-      (job_is db m k means sound held same, ap (λ n. n + 1) (ap (λ rows. length rows) means.jobs ∙ length-map m.jobs (λ j. job_row (fields_of j))) ∙ sym sound.next_job),
+      job_is db m k means sound held same,
       (down_is db m k means, (reply_is db m k means, (floor_is db m k means, (call_is db m k means sound held same right, tt)))),
     ),
   );

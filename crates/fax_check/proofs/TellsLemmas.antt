@@ -1,5 +1,5 @@
 -- What readings leave and tell, one after the other.
-use Rattle.std.proofs.Common.{◌≡◌, ◌⊎◌, ◌+◌, inl, inr, ℕ, List, [], Vec, Global, Ok, Err, Result, IfOk, IfErr, IsErrAnd, MatchResult, OnOk, OnErr, refl, sym, ap, subst, ◌∙◌}
+use Rattle.std.proofs.Common.{◌≡◌, ◌⊎◌, ◌+◌, inl, inr, ℕ, List, [], Vec, Global, Ok, Err, Result, IfOk, IfErr, IsErrAnd, MatchResult, OnOk, OnErr, refl, sym, ap, subst, ◌∙◌, ℤ, Option}
 use Rattle.sqlite.specs.Effect.{Database}
 use Rattle.sqlite.specs.Held.{Held, state}
 use Rattle.sqlite.specs.Given.{HasBegun, HasGiven, IsPlain}
@@ -11,7 +11,6 @@ use Rattle.sqlite.specs.declared.rows.Row.{Row as SqlRow}
 use Rattle.sqlite.proofs.Callers.{begun_plain, unchanged_then}
 use Rattle.sqlite_trees.specs.declared.store.Store.{Ghosts}
 use Rattle.fax_check.specs.Pass.{AreRead, GoesOn}
-use Rattle.fax_check.specs.declared.pass.Tally.{Tally}
 use Rattle.fax_check.specs.Reading.{Looks, Tells}
 use Rattle.fax_check.specs.Sound.{IsStored}
 use Rattle.fax_schema.specs.Schema.{our_tables}
@@ -351,18 +350,18 @@ module _ {S : Type 0} (g : Ghosts S) where
   goes_reads old begun new (Ok x) same next left = unchanged_then (state g old) (state g begun) (state g new) same next
   goes_reads old begun new (Err e) same next left = left_then (state g old) (state g begun) (state g new) same left
 
-  read_of : (old begun new : Held S) (sql : List ℕ) (r : Result Tally StoreFault) (P : List Row → Tally → Type 0) → IsUnchanged (state g old) (state g begun)
+  read_of : (old begun new : Held S) (sql : List ℕ) (r : Result (Option ℤ) StoreFault) (P : List Row → Option ℤ → Type 0) → IsUnchanged (state g old) (state g begun)
       → OnOk r (IsUnchanged (state g begun) (state g new))
-      → IfOk r (λ tally. (given : List Row) × AreRead g sql (state g new).now new given × P given tally) → IfOk r (λ tally. (given : List Row) × AreRead g sql (state g old).now new given × P given tally)
-  read_of old begun new sql (Ok tally) P same next told = (told.0, ((told.1).0, (told.1).1 ∙ next.0.now_is ∙ same.0.now_is, (told.1).2), told.2)
+      → IfOk r (λ found. (given : List Row) × AreRead g sql (state g new).now new given × P given found) → IfOk r (λ found. (given : List Row) × AreRead g sql (state g old).now new given × P given found)
+  read_of old begun new sql (Ok found) P same next told = (told.0, ((told.1).0, (told.1).1 ∙ next.0.now_is ∙ same.0.now_is, (told.1).2), told.2)
   read_of old begun new sql (Err e) P same next told = tt
 
   -- a pass over a query's rows
-  pub pass_tells : (old begun new : Held S) (sql : List ℕ) (r : Result Tally StoreFault) (P : List Row → Tally → Type 0) → IsQueryText sql
+  pub pass_tells : (old begun new : Held S) (sql : List ℕ) (r : Result (Option ℤ) StoreFault) (P : List Row → Option ℤ → Type 0) → IsQueryText sql
       → Survives (state g old) (state g begun) (CommitsShowing sql [] (state g old))
       → (HasCleanDisk (state g begun) → HasBegun g sql [] old begun) → GoesOn g begun new r
-      → ((text : List ℕ) → HasGiven g text [] begun [] → HasCleanDisk (state g new) → IfOk r (λ tally. (given : List Row) × AreRead g text (state g new).now new given × P given tally))
-      → Tells (state g old) (state g new) r (λ db tally. (given : List Row) × AreRead g sql db new given × P given tally)
+      → ((text : List ℕ) → HasGiven g text [] begun [] → HasCleanDisk (state g new) → IfOk r (λ found. (given : List Row) × AreRead g text (state g new).now new given × P given found))
+      → Tells (state g old) (state g new) r (λ db found. (given : List Row) × AreRead g sql db new given × P given found)
   pass_tells old begun new sql r P query survives starts goes counted =
       record {
         clean = λ clean. cleaner (state g old) (state g begun) survives.clean (goes.clean clean);

@@ -1,7 +1,6 @@
 -- Rows that are each as they have to be mean a sound queue.
-use Rattle.std.proofs.Common.{◌≡◌, ◌≢◌, inl, inr, ◌+◌, ◌<◌, ◌≤◌, ℕ, List, leb, length, map, filter, drop, Bool, true, Option, Some, None, IsTrue, refl, sym, ap, subst, ◌∙◌, arith}
+use Rattle.std.proofs.Common.{◌≡◌, ◌≢◌, inl, inr, ◌<◌, ◌≤◌, ℕ, List, leb, length, map, filter, drop, Bool, true, Option, Some, None, IsTrue, refl, sym, ap, subst, ◌∙◌, arith}
 use Rattle.std.specs.Prelude.{◌==◌}
-use Rattle.std.specs.List.{range_with_len}
 use Rattle.std.specs.List.Sorted.{IsPermutation}
 use Rattle.std.specs.Str.{bytes_eq}
 use Rattle.std.proofs.lemmas.Bool.{and_parts, eqb-true, leb-true}
@@ -22,14 +21,14 @@ use Rattle.fax_check.specs.Whole.{AreWhole, Holder, IsWholeTable, IsHeld, IsRigh
 use Rattle.fax_check.proofs.FieldLemmas.{dial_of as dialed_by, fit_of, number_of, one_grant, same_holder}
 use Rattle.fax_check.proofs.FloorLemmas.{IsLawfulFloor, columns_of, floor_in, floors_counted, floors_lawful}
 use Rattle.fax_check.proofs.HeldLemmas.{held_apart, one_of_job, one_of_modem}
-use Rattle.fax_check.proofs.MadeLemmas.{AreApart, Made, all_each, made, made_columns, numbered, one_there, rising, same_elements, some_length}
+use Rattle.fax_check.proofs.MadeLemmas.{ascend, AreApart, Made, all_each, made, made_columns, one_there, rising, same_elements, some_length}
 use Rattle.fax_check.proofs.OnceLemmas.{clients_once}
 use Rattle.fax_core.specs.Fits.{fits}
 use Rattle.fax_core.specs.Job.{Job, fields_of, job_of}
 use Rattle.fax_core.specs.Ledger.{Ledger, IsLawfulEntry}
 use Rattle.fax_core.specs.Machine.{dial_of}
 use Rattle.fax_core.specs.Queue.{Queue, grant_numbered, job_numbered, open_grants}
-use Rattle.fax_core.specs.Sound.{Fits, FitsFree, IsJob, IsOpen, Sound}
+use Rattle.fax_core.specs.Sound.{AscendBetween, Fits, FitsFree, IsJob, IsOpen, Sound}
 use Rattle.fax_core.specs.State.{calls_to, is_of_number}
 use Rattle.fax_core.specs.declared.grants.Grant.{Grant}
 use Rattle.fax_core.proofs.FitsLemmas.{fits_decides, record_again}
@@ -87,13 +86,13 @@ module _ (db : Database) (meta : Meta) (held : List Holder) (stored : IsStored d
   IsJobOf f = IsLawfulJob (job_of f) × (f.job < meta.next_job) × Stands held f
 
   jobs_made : Made job_row IsJobOf (db.trees jobs_tree)
-  jobs_made = made job_row IsJobOf (db.trees jobs_tree) (λ r has. let it = whole_jobs.0 r has in (it.job, it.is, (it.lawful, it.before, it.stands)))
+  jobs_made = made job_row IsJobOf (db.trees jobs_tree) (λ r has. let it = whole_jobs r has in (it.job, it.is, (it.lawful, it.before, it.stands)))
 
   abbrev IsGrantOf : Grant → Type 0
   IsGrantOf g = IsLawfulGrant g × (g.number < meta.next_grant) × (IsTrue g.is_open → IsHeld held g)
 
   grants_made : Made grant_row IsGrantOf (db.trees grants_tree)
-  grants_made = made grant_row IsGrantOf (db.trees grants_tree) (λ r has. let it = whole_grants.0 r has in (it.grant, it.is, (it.lawful, it.before, it.is_held)))
+  grants_made = made grant_row IsGrantOf (db.trees grants_tree) (λ r has. let it = whole_grants r has in (it.grant, it.is, (it.lawful, it.before, it.is_held)))
 
   down_made : Made down_columns IsName (map (drop 1) (db.trees down_tree))
   down_made = made_columns down_columns IsName (db.trees down_tree) whole_down
@@ -139,35 +138,25 @@ module _ (db : Database) (meta : Meta) (held : List Holder) (stored : IsStored d
   grant_found : (g : Grant) → Has queue.grants g → grant_numbered g.number queue ≡ Some g
   grant_found g has = only_numbered grant_row (λ (x : Grant). x.number) (λ x. refl) queue.grants g grants_rise has
 
-  -- there are as many jobs as there are rows
-  jobs_long : length (db.trees jobs_tree) ≡ length queue.jobs
-  jobs_long = ap length jobs_are ∙ length-map queue.jobs row_of
-
-  grants_long : length (db.trees grants_tree) ≡ length queue.grants
-  grants_long = ap length grants_made.is ∙ length-map queue.grants grant_row
-
-  -- jobs are numbered from 1
-  jobs_numbered : map (λ (j : Job). j.number) queue.jobs ≡ range_with_len 1 (length queue.jobs)
-  jobs_numbered = numbered (λ (j : Job). j.number) 1 queue.jobs (rising row_of (λ (j : Job). j.number) (λ j. refl) queue.jobs jobs_rise) within
+  -- the numbers of jobs ascend
+  jobs_ascend : AscendBetween 0 (map (λ (j : Job). j.number) queue.jobs) queue.next_job
+  jobs_ascend = ascend (λ (j : Job). j.number) 0 queue.next_job queue.jobs (rising row_of (λ (j : Job). j.number) (λ j. refl) queue.jobs jobs_rise) within (whole.numbers queue).next_job.0
     where
-      within : (j : Job) → Has queue.jobs j → (1 ≤ j.number) × (j.number < length queue.jobs + 1)
+      within : (j : Job) → Has queue.jobs j → (0 < j.number) × (j.number < queue.next_job)
       within j has =
           let f = has_mapped job_of jobs_made.of j has in
           let it = jobs_made.each f.0 f.1 in
           let least : 1 ≤ (f.0).job = leb-true 1 (f.0).job (and_parts (leb 1 (f.0).job) (leb (f.0).job last_job) (within_limits_of (fields_of (job_of f.0)) it.0.limits).number).0 in
           let same : j.number ≡ (f.0).job = ap (λ (x : Job). x.number) f.2 in
           let before : (f.0).job < meta.next_job = it.1 in
-          (omega (arith, least, same), omega (arith, before, same, whole_jobs.1, jobs_long))
+          (omega (arith, least, same), omega (arith, before, same))
 
-  -- so are grants
-  grants_numbered : map (λ (g : Grant). g.number) queue.grants ≡ range_with_len 1 (length queue.grants)
-  grants_numbered = numbered (λ (g : Grant). g.number) 1 queue.grants (rising grant_row (λ (g : Grant). g.number) (λ g. refl) queue.grants grants_rise) within
+  -- so do those of grants
+  grants_ascend : AscendBetween 0 (map (λ (g : Grant). g.number) queue.grants) queue.next_grant
+  grants_ascend = ascend (λ (g : Grant). g.number) 0 queue.next_grant queue.grants (rising grant_row (λ (g : Grant). g.number) (λ g. refl) queue.grants grants_rise) within (whole.numbers queue).next_grant.0
     where
-      within : (g : Grant) → Has queue.grants g → (1 ≤ g.number) × (g.number < length queue.grants + 1)
-      within g has =
-          let it = grants_made.each g has in
-          let before : g.number < meta.next_grant = it.1 in
-          (it.0.limits.number.0, omega (arith, before, whole_grants.1, grants_long))
+      within : (g : Grant) → Has queue.grants g → (0 < g.number) × (g.number < queue.next_grant)
+      within g has = let it = grants_made.each g has in (it.0.limits.number.0, it.1)
 
   -- ---- holders
 
@@ -370,10 +359,8 @@ module _ (db : Database) (meta : Meta) (held : List Holder) (stored : IsStored d
 
   queue_sound : Sound queue
   queue_sound = record {
-    jobs = jobs_numbered;
-    next_job = sym whole_jobs.1 ∙ ap (λ n. n + 1) jobs_long;
-    grants = grants_numbered;
-    next_grant = sym whole_grants.1 ∙ ap (λ n. n + 1) grants_long;
+    jobs = jobs_ascend;
+    grants = grants_ascend;
     one_to_a_modem = one_to_a_modem;
     one_of_a_job = one_of_a_job;
     held = held_fits;

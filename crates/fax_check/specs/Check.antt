@@ -1,5 +1,5 @@
 -- What a check decides.
-use Rattle.std.specs.Prelude.{◌≡◌, ℕ, ℤ, ◌+◌, ◌==◌, Bool, true, List, [], ◌∷◌, All, Option, Some, None, drop, map, if◌then◌else◌}
+use Rattle.std.specs.Prelude.{◌≡◌, ℤ, List, [], ◌∷◌, All, Option, Some, None, drop, map}
 use Rattle.std.specs.List.Sorted.{IsPermutation}
 use Rattle.sqlite.specs.Effect.{Database}
 use Rattle.sqlite.specs.Order.{Row}
@@ -7,10 +7,8 @@ use Rattle.sqlite_rules.specs.Lists.{Has}
 use Rattle.fax_core.specs.Queue.{Queue}
 use Rattle.fax_check.specs.Sound.{IsSound}
 use Rattle.fax_check.specs.Whole.{Holder, IsRightHolder, IsWholeTable, dialing, holder_columns, numbers_row, passed}
-use Rattle.fax_check.specs.declared.pass.Tally.{Tally}
 use Rattle.fax_check.specs.declared.tables.Flaw.{Flaw}
 use Rattle.fax_check.specs.declared.tables.Table.{Table}
-use Rattle.fax_check.specs.declared.tables.Table.TheVariants.{Grants, Jobs}
 use Rattle.fax_schema.specs.Schema.{calls_tree, holds_tree, meta_tree}
 use Rattle.fax_tables.specs.Meta.{with_meta}
 use Rattle.fax_tables.specs.Row.{call_columns, number}
@@ -53,19 +51,10 @@ AreCalled db held = All (IsCalled db held) held
 
 -- ---- the tables that are read a row at a time
 
--- there are as many jobs, or grants, as have been numbered
-abbrev pub are_all : Table → Meta → ℕ → Bool
-are_all Jobs meta rows = rows + 1 == meta.next_job
-are_all Grants meta rows = rows + 1 == meta.next_grant
-are_all _ meta rows = true
-
--- what a tally says of its table
-abbrev pub flaw_in : Table → Bool → Option ℤ → Option Flaw
-flaw_in table whole (Some row) = Some (record { table = table; row = Some row })
-flaw_in table whole None = if whole then None else Some (record { table = table; row = None })
-
-abbrev pub flaw_of : Table → Meta → Tally → Option Flaw
-flaw_of table meta tally = flaw_in table (are_all table meta tally.rows) tally.flaw
+-- the flaw that a table has where a pass found this row
+abbrev pub flaw_in : Table → Option ℤ → Option Flaw
+flaw_in table None = None
+flaw_in table (Some row) = Some (record { table = table; row = Some row })
 
 -- whether it is whole
 abbrev pub IsTableChecked : Meta → List Holder → Table → Database → Option Flaw → Type 0

@@ -1,5 +1,5 @@
 -- What a pass over the rows of a table finds.
-use Rattle.std.specs.Prelude.{◌≡◌, ℕ, List, [], ◌∷◌, ◌++◌, All, MatchOption, IfErr, OnOk, OnErr, Result, length}
+use Rattle.std.specs.Prelude.{◌≡◌, ℕ, ℤ, List, [], ◌∷◌, ◌++◌, All, MatchOption, IfErr, OnOk, OnErr, Option, Result}
 use Rattle.sqlite.specs.Effect.{Database}
 use Rattle.sqlite.specs.Given.{HasGiven}
 use Rattle.sqlite.specs.Held.{Held, state}
@@ -8,15 +8,13 @@ use Rattle.sqlite.specs.State.{HasCleanDisk, IsUnchanged, Shown}
 use Rattle.sqlite_trees.specs.declared.store.Store.{Ghosts}
 use Rattle.fax_check.specs.declared.pass.Step.{Step}
 use Rattle.fax_check.specs.declared.pass.Step.TheVariants.{End, Right, Wrong}
-use Rattle.fax_check.specs.declared.pass.Tally.{Tally}
 use Rattle.fax_store.specs.Store.{CommitsNothing, LeavesCommit}
 use Rattle.fax_tables.specs.declared.fault.StoreFault.{StoreFault}
 use Rattle.fax_tables.specs.declared.fault.StoreFault.TheVariants.{Unavailable}
 
--- so many rows were read, and each is as it has to be, or one isn't
-pub record IsTally (P : Row → Type 0) (rows : List Row) (tally : Tally) : Type 0 where
-  pub count : tally.rows ≡ length rows
-  pub flaw : MatchOption tally.flaw (All P rows) (λ _. ¬ All P rows)
+-- each of these rows is as it has to be, or one isn't, and a rowid is found
+abbrev pub IsPassed : (Row → Type 0) → List Row → Option ℤ → Type 0
+IsPassed P rows found = MatchOption found (All P rows) (λ _. ¬ All P rows)
 
 -- a query has shown these rows of the database
 abbrev pub AreRead : {S : Type 0} → Ghosts S → List ℕ → Database → Held S → List Row → Type 0

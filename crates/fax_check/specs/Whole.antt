@@ -1,5 +1,5 @@
 -- What each row of the eight tables has to be, one by one, so that they are those of a sound queue, and what it shows.
-use Rattle.std.specs.Prelude.{◌≡◌, ◌⊎◌, ⊤, ℕ, ◌+◌, ◌<◌, ◌≤◌, ◌^◌, ◌==◌, ◌&&◌, Bool, List, [], ◌∷◌, All, Some, None, codes, map, filter, length, drop, IsTrue, if◌then◌else◌}
+use Rattle.std.specs.Prelude.{◌≡◌, ◌⊎◌, ⊤, ℕ, ◌<◌, ◌≤◌, ◌^◌, ◌==◌, ◌&&◌, Bool, List, [], ◌∷◌, All, Some, None, codes, map, filter, length, drop, IsTrue, if◌then◌else◌}
 use Rattle.std.specs.List.{list_any}
 use Rattle.std.specs.List.Sorted.{IsPermutation}
 use Rattle.std.specs.Str.{bytes_eq}
@@ -193,10 +193,10 @@ module _ (meta : Meta) (held : List Holder) where
   Shows Holds row = ⊤
   Shows TheMeta row = ⊤
 
-  -- each row is as it has to be, and there are as many as have been numbered
+  -- each row is as it has to be
   abbrev pub IsWholeTable : Database → Table → Type 0
-  IsWholeTable db Jobs = Each db jobs_tree (IsJobRow meta held) × (length (db.trees jobs_tree) + 1 ≡ meta.next_job)
-  IsWholeTable db Grants = Each db grants_tree (IsGrantRow meta held) × (length (db.trees grants_tree) + 1 ≡ meta.next_grant)
+  IsWholeTable db Jobs = Each db jobs_tree (IsJobRow meta held)
+  IsWholeTable db Grants = Each db grants_tree (IsGrantRow meta held)
   IsWholeTable db Down = Each db down_tree IsDownRow
   IsWholeTable db Replies = Each db replies_tree IsReplyRow
   IsWholeTable db Floors = Each db floors_tree IsFloorRow
@@ -210,7 +210,7 @@ passed = PASSED
 
 -- ---- all of them
 
--- The row of meta has these numbers, and the rows of holds these holders, in any order. Each row is as it has to be, and there are as many jobs and grants as have been numbered.
+-- The row of meta has these numbers, and the rows of holds these holders, in any order. Each row is as it has to be.
 pub record AreWhole (db : Database) (meta : Meta) (held : List Holder) : Type 0 where
   pub meta_is : db.trees meta_tree ≡ numbers_row meta ∷ []
   pub numbers : (m : Queue) → IsLawfulMeta (with_meta meta m)

@@ -3,14 +3,14 @@
 ghost use Rattle.std.specs.Prelude.{◌≡◌};
 ghost use Rattle.std.specs.Bool.{Decides};
 ghost use Rattle.sqlite.specs.Held.{state};
-ghost use Rattle.fax_check.specs.Check.{AreCalled, AreNumbers, AreTablesChecked, HasHolders, HasNumbers, IsCalled, IsChecked, IsOfVersion, IsTableChecked, are_all, flaw_of};
+ghost use Rattle.fax_check.specs.Check.{AreCalled, AreNumbers, AreTablesChecked, HasHolders, HasNumbers, IsCalled, IsChecked, IsOfVersion, IsTableChecked, flaw_in};
 ghost use Rattle.fax_check.specs.Reading.{Looks, Tells};
 ghost use Rattle.fax_tables.specs.Row.{HasNumber};
 ghost use Rattle.sqlite.specs.Order.{Row as Values};
 ghost use Rattle.sqlite_rules.specs.Lists.{Has};
 
 use crate::holders::{Holder, Holders, read_holders};
-use crate::pass::{Tally, pass};
+use crate::pass::pass;
 use crate::reading::{known, show};
 use crate::rows::{dialing, has_count};
 use crate::tables::{Flaw, PASSED, Table};
@@ -139,34 +139,20 @@ fn check_table<S: Alter>(
     ensures { Tells (state S.Store conn.old) (state S.Store conn.new) result (λ db found. IsTableChecked meta.now held.now
         table db found) }
 {
-    let tally = pass(alloc, conn, table, meta, held)?;
-    Ok(flaw_of(table, meta, &tally))
+    let found = pass(alloc, conn, table, meta, held)?;
+    Ok(flaw_in(table, found))
 }
 
-/// What a tally says of its table.
-fn flaw_of(table: Table, meta: &Meta, tally: &Tally) -> Option<Flaw>
-    ensures { result ≡ flaw_of table meta.now tally.now }
+/// The flaw of a table in which a pass found this row.
+fn flaw_in(table: Table, found: Option<i64>) -> Option<Flaw>
+    ensures { result ≡ flaw_in table found }
 {
-    match tally.flaw {
+    match found {
         Some(row) => Some(Flaw {
             table,
             row: Some(row),
         }),
-        None if are_all(table, meta, tally.rows) => None,
-        None => Some(Flaw { table, row: None }),
-    }
-}
-
-/// Whether there are as many jobs, or grants, as have been numbered.
-fn are_all(table: Table, meta: &Meta, rows: u64) -> bool
-    ensures { result ≡ are_all table meta.now rows }
-{
-    match table {
-        Table::Jobs => rows < u64::from(meta.next_job) && rows + 1 == u64::from(meta.next_job),
-        Table::Grants => {
-            rows < u64::from(meta.next_grant) && rows + 1 == u64::from(meta.next_grant)
-        }
-        _ => true,
+        None => None,
     }
 }
 

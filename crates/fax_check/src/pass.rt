@@ -5,7 +5,7 @@ ghost use Rattle.sqlite.specs.Given.{HasGiven};
 ghost use Rattle.sqlite.specs.Held.{state};
 ghost use Rattle.sqlite.specs.Order.{Row as Values};
 ghost use Rattle.sqlite.specs.State.{HasCleanDisk};
-ghost use Rattle.fax_check.specs.Pass.{AreRead, GoesOn, IsStep, IsTally};
+ghost use Rattle.fax_check.specs.Pass.{AreRead, GoesOn, IsPassed, IsStep};
 ghost use Rattle.fax_check.specs.Reading.{Tells};
 ghost use Rattle.fax_check.specs.Whole.{Shows, text_of};
 
@@ -16,15 +16,6 @@ use fax_tables::{Meta, StoreFault};
 use sqlite::types::ValueRef;
 use sqlite::{Alter, Connection, Row, Rows};
 use std::alloc::Global;
-
-/// What was found in a table's rows.
-#[derive(Clone, Copy)]
-pub(crate) struct Tally {
-    /// How many there are.
-    pub(crate) rows: u64,
-    /// The rowid of the first that isn't as it has to be.
-    pub(crate) flaw: Option<i64>,
-}
 
 /// What the next row of a pass is.
 #[derive(Clone, Copy)]
@@ -37,16 +28,16 @@ enum Step {
     Wrong(i64),
 }
 
-/// Reads each row of a table once.
+/// Reads each row of a table once, and returns the rowid of the first that isn't as it has to be.
 pub(crate) fn pass<S: Alter>(
     alloc: Global,
     conn: &mut Connection<S>,
     table: Table,
     meta: &Meta,
     held: &[Holder],
-) -> Result<Tally, StoreFault>
-    ensures { Tells (state S.Store conn.old) (state S.Store conn.new) result (λ db tally. (rows : List Values)
-        × AreRead S.Store (text_of table) db conn.new rows × IsTally (Shows meta.now held.now table) rows tally) }
+) -> Result<Option<i64>, StoreFault>
+    ensures { Tells (state S.Store conn.old) (state S.Store conn.new) result (λ db found. (rows : List Values)
+        × AreRead S.Store (text_of table) db conn.new rows × IsPassed (Shows meta.now held.now table) rows found) }
 {
     let mut rows = conn.query(table.all_rows(), &[])?;
     count(alloc, &mut rows, table, meta, held)
@@ -59,18 +50,18 @@ fn count<S: Alter>(
     table: Table,
     meta: &Meta,
     held: &[Holder],
-) -> Result<Tally, StoreFault>
+) -> Result<Option<i64>, StoreFault>
     ensures same_reference { rows.new.conn.ghost_name ≡ rows.old.conn.ghost_name }
     ensures leaves { GoesOn S.Store rows.old.conn.now rows.new.conn.now result }
     ensures counted { (sql : List ℕ) → HasGiven S.Store sql [] rows.old.conn.now [] → HasCleanDisk
-        (state S.Store rows.new.conn.now) → IfOk result (λ tally. (given : List Values) × AreRead S.Store sql
-        (state S.Store rows.new.conn.now).now rows.new.conn.now given × IsTally (Shows meta.now held.now table) given
-        tally) }
+        (state S.Store rows.new.conn.now) → IfOk result (λ found. (given : List Values) × AreRead S.Store sql
+        (state S.Store rows.new.conn.now).now rows.new.conn.now given × IsPassed (Shows meta.now held.now table)
+        given found) }
 {
     let mut flaw = None;
-    for count in 0..u64::MAX {
+    for _ in 0..u64::MAX {
         match next_step(alloc, rows, table, meta, held)? {
-            Step::End => return Ok(Tally { rows: count, flaw }),
+            Step::End => return Ok(flaw),
             Step::Right => {}
             Step::Wrong(row) => flaw = flaw.or(Some(row)),
         }

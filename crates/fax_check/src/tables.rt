@@ -52,7 +52,7 @@ pub(crate) static PASSED: [Table; 6] = [
 pub struct Flaw {
     /// Its table.
     pub table: Table,
-    /// Its rowid: the number of a job or a grant, 1 in meta. Where a row is missing, there is none.
+    /// Its rowid: the number of a job or a grant, 1 in meta; none where a row of `calls` is missing.
     pub row: Option<i64>,
 }
 

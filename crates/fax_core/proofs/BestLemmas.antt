@@ -153,7 +153,7 @@ goes_by : (s : Settings) (m : Queue) (t : ℕ) (modem : List ℕ) (j : Job) → 
 goes_by s m t modem j h i =
     let f = of_filter (may_go s m t modem) m.jobs j i in
     let parts = and_parts (eqb (state s m t j) 5) (s.admits j.modem modem) f.1 in
-    record { there = in_found (λ (k : Job). k.number) 1 m.jobs j h.jobs f.0; ready = eqb-true (state s m t j) 5 parts.0; admitted = parts.1 }
+    record { there = in_found (λ (k : Job). k.number) 0 m.next_job m.jobs j h.jobs f.0; ready = eqb-true (state s m t j) 5 parts.0; admitted = parts.1 }
 
 -- a job that may go is among those
 goes_in : (s : Settings) (m : Queue) (t : ℕ) (modem : List ℕ) (k : Job) → MayGo s m t modem k → In k (going s m t modem)

@@ -29,8 +29,7 @@ pub record Came (i : Import) (n : Queue) (number : ℕ) : Type 0 where
 -- a new job with the next number is found by it
 new_there : (m : Queue) (j : Job) → Sound m → j.number ≡ m.next_job → IsJob (with_new_job j m) j.number j
 new_there m j h number =
-    let here : j.number ≡ length m.jobs + 1 = number ∙ h.next_job in
-    comes (λ (k : Job). eqb k.number j.number) m.jobs j (absent (λ (k : Job). k.number) 1 j.number m.jobs h.jobs (omega arith)) (eq-eqb j.number j.number refl)
+    comes (λ (k : Job). eqb k.number j.number) m.jobs j (absent (λ (k : Job). k.number) 0 m.next_job j.number m.jobs h.jobs (omega (arith, number))) (eq-eqb j.number j.number refl)
 
 -- two replies to imports that are the same tell the same number
 told : (a b c d : ℕ) → Brought a b ≡ Brought c d → a ≡ c

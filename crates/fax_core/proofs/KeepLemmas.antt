@@ -1,5 +1,5 @@
 -- A sound queue stays sound where a job, or a job and its grant, changes in its place or comes at the end, and they fit.
-use Rattle.std.proofs.Common.{◌≡◌, ◌≢◌, ◌⊎◌, inl, inr, ℕ, ◌+◌, Bool, true, false, cond, eqb, map, refl, sym, ap, subst, ◌∙◌, arith}
+use Rattle.std.proofs.Common.{◌≡◌, ◌≢◌, ◌⊎◌, inl, inr, ℕ, ◌+◌, ◌<◌, Bool, true, false, cond, eqb, length, map, refl, sym, ap, subst, ◌∙◌, arith}
 use Rattle.std.specs.Prelude.{Some, None, find}
 use Rattle.std.specs.Option.{option_map}
 use Rattle.std.proofs.lemmas.Bool.{eqb-true, eq-eqb}
@@ -9,7 +9,7 @@ use Rattle.fax_core.specs.Job.{Job}
 use Rattle.fax_core.specs.Machine.{with_job, with_both, with_new_job, with_new_grant}
 use Rattle.fax_core.specs.Queue.{Queue, job_numbered, grant_numbered}
 use Rattle.fax_core.specs.Sound.{FitsFree, FitsGrant, IsJob, IsOpen, Sound}
-use Rattle.fax_core.proofs.PlaceLemmas.{find_map, mapped, numbered_map, length_map, numbered_more, length_more, absent, stays, comes, either, in_place, in_place_number, number_found, placed_here, placed_other, placed}
+use Rattle.fax_core.proofs.PlaceLemmas.{find_map, mapped, ascend_few, ascend_mapped, ascend_more, absent, stays, comes, either, in_place, in_place_number, number_found, placed_here, placed_other, placed}
 
 abbrev job_number : Job → ℕ
 job_number j = j.number
@@ -33,6 +33,14 @@ numbered_job m n j e = number_found job_number n m.jobs j e
 pub numbered_grant : (m : Queue) (n : ℕ) (g : Grant) → grant_numbered n m ≡ Some g → g.number ≡ n
 numbered_grant m n g e = number_found grant_number n m.grants g e
 
+-- there are fewer jobs than the next number
+pub jobs_few : (m : Queue) → Sound m → length m.jobs < m.next_job
+jobs_few m h = omega (arith, ascend_few job_number 0 m.next_job m.jobs h.jobs)
+
+-- and fewer grants
+pub grants_few : (m : Queue) → Sound m → length m.grants < m.next_grant
+grants_few m h = omega (arith, ascend_few grant_number 0 m.next_grant m.grants h.grants)
+
 -- ---- each job changes, and no grant
 
 -- where each job changes and keeps its number, a number finds the changed job
@@ -45,10 +53,8 @@ pub keeps_mapped : (m : Queue) (f : Job → Job) (t : ℕ) → ((j : Job) → (f
     → ((n : ℕ) (j : Job) (g : Grant) → IsJob m n j → FitsGrant j g → FitsGrant (f j) g)
     → Sound m → Sound (record m { jobs = map f m.jobs; clock = t })
 keeps_mapped m f t same free held h = record {
-  jobs = numbered_map job_number f same 1 m.jobs h.jobs;
-  next_job = h.next_job ∙ ap (λ (a : ℕ). a + 1) (sym (length_map f m.jobs));
+  jobs = ascend_mapped job_number f same 0 m.next_job m.jobs h.jobs;
   grants = h.grants;
-  next_grant = h.next_grant;
   one_to_a_modem = h.one_to_a_modem;
   one_of_a_job = h.one_of_a_job;
   held = λ a g o. let old = h.held a g o in (f old.0, looked_up m f same g.job ∙ ap (option_map f) old.1, held g.job old.0 g old.1 old.2);
@@ -166,10 +172,8 @@ module _ (m : Queue) (n : ℕ) (j : Job) (g : Grant) (b : JobAndGrant) (is : IsO
   -- the queue stays sound with job and grant as the report leaves them
   pub keeps_both : Sound (with_both b m)
   keeps_both = record {
-    jobs = numbered_map job_number (in_place job_number b.job) (in_place_number job_number b.job) 1 m.jobs h.jobs;
-    next_job = h.next_job ∙ ap (λ (a : ℕ). a + 1) (sym (length_map (in_place job_number b.job) m.jobs));
-    grants = numbered_map grant_number (in_place grant_number b.grant) (in_place_number grant_number b.grant) 1 m.grants h.grants;
-    next_grant = h.next_grant ∙ ap (λ (a : ℕ). a + 1) (sym (length_map (in_place grant_number b.grant) m.grants));
+    jobs = ascend_mapped job_number (in_place job_number b.job) (in_place_number job_number b.job) 0 m.next_job m.jobs h.jobs;
+    grants = ascend_mapped grant_number (in_place grant_number b.grant) (in_place_number grant_number b.grant) 0 m.next_grant m.grants h.grants;
     one_to_a_modem = λ a c x y o p e. let u = was a x o in let v = was c y p in h.one_to_a_modem a c u.before v.before u.open' v.open' (sym u.modem ∙ e ∙ v.modem);
     one_of_a_job = λ a c x y o p e. let u = was a x o in let v = was c y p in h.one_of_a_job a c u.before v.before u.open' v.open' (sym u.job ∙ e ∙ v.job);
     held = λ a x o. let p = placed grant_number a b.grant x m.grants o.0 in held_by a x p.before p.was o.1 p.now;
@@ -181,12 +185,10 @@ module _ (m : Queue) (n : ℕ) (j : Job) (g : Grant) (b : JobAndGrant) (is : IsO
 -- the queue stays sound with a new job of the next number that fits
 pub keeps_new_job : (m : Queue) (j : Job) → j.number ≡ m.next_job → FitsFree j → Sound m → Sound (with_new_job j m)
 keeps_new_job m j same fits h =
-    let none : job_numbered m.next_job m ≡ None = absent job_number 1 m.next_job m.jobs h.jobs (omega (arith, h.next_job)) in
+    let none : job_numbered m.next_job m ≡ None = absent job_number 0 m.next_job m.next_job m.jobs h.jobs (omega arith) in
     record {
-      jobs = numbered_more job_number 1 m.jobs j h.jobs (omega (arith, same, h.next_job));
-      next_job = omega (arith, h.next_job, length_more m.jobs j);
+      jobs = ascend_more job_number 0 m.next_job m.jobs j h.jobs same;
       grants = h.grants;
-      next_grant = h.next_grant;
       one_to_a_modem = h.one_to_a_modem;
       one_of_a_job = h.one_of_a_job;
       held = λ a g o. let old = h.held a g o in (old.0, stays (λ k. eqb k.number g.job) m.jobs j old.0 old.1, old.2);
@@ -246,7 +248,7 @@ module _ (m : Queue) (n : ℕ) (j : Job) (b : JobAndGrant) (r : Grants m n j b) 
   -- the new grant is found
   pub found_new : IsOpen (with_new_grant b m) m.next_grant b.grant
   found_new =
-      let none : grant_numbered m.next_grant m ≡ None = absent grant_number 1 m.next_grant m.grants h.grants (omega (arith, h.next_grant)) in
+      let none : grant_numbered m.next_grant m ≡ None = absent grant_number 0 m.next_grant m.next_grant m.grants h.grants (omega arith) in
       (comes (λ (g : Grant). eqb g.number m.next_grant) m.grants b.grant none (eq-eqb b.grant.number m.next_grant r.grant_number), r.is_open)
 
   -- a job that no open grant has fits alone, whether it is the granted one or another
@@ -258,10 +260,8 @@ module _ (m : Queue) (n : ℕ) (j : Job) (b : JobAndGrant) (r : Grants m n j b) 
   -- the queue stays sound with the new grant
   pub keeps_new_grant : Sound (with_new_grant b m)
   keeps_new_grant = record {
-    jobs = numbered_map job_number (in_place job_number b.job) (in_place_number job_number b.job) 1 m.jobs h.jobs;
-    next_job = h.next_job ∙ ap (λ (a : ℕ). a + 1) (sym (length_map (in_place job_number b.job) m.jobs));
-    grants = numbered_more grant_number 1 m.grants b.grant h.grants (omega (arith, r.grant_number, h.next_grant));
-    next_grant = omega (arith, h.next_grant, length_more m.grants b.grant);
+    jobs = ascend_mapped job_number (in_place job_number b.job) (in_place_number job_number b.job) 0 m.next_job m.jobs h.jobs;
+    grants = ascend_more grant_number 0 m.next_grant m.grants b.grant h.grants r.grant_number;
     one_to_a_modem = λ a c x y o p e. modem_by a c x y e (new_or_old a x o) (new_or_old c y p);
     one_of_a_job = λ a c x y o p e. job_by a c x y e (new_or_old a x o) (new_or_old c y p);
     held = λ a x o. held_new a x (new_or_old a x o);

@@ -6,6 +6,7 @@ pub mod RowsPhases
 pub mod RowsOrder
 pub mod RowsFields
 pub mod RowsListed
+mod RowsGaps
 pub mod PlaceLemmas
 pub mod KeepLemmas
 pub mod RangeLemmas
@@ -16,6 +17,7 @@ pub mod StepLemmas
 pub mod PageLemmas
 pub mod BroughtLemmas
 pub mod ClockLemmas
+pub mod NumberLemmas
 pub mod FitsLemmas
 pub mod RefusalLemmas
 mod ReasonLemmas

@@ -1,11 +1,11 @@
 -- Looking up by number, in a list where one stands in another's place or comes at the end.
-use Rattle.std.proofs.Common.{◌≡◌, ◌≢◌, ◌⊎◌, inl, inr, ℕ, suc, ◌+◌, ◌≤◌, Bool, true, false, cond, eqb, List, [], ◌∷◌, ◌++◌, map, length, refl, sym, ap, subst, ◌∙◌, arith}
+use Rattle.std.proofs.Common.{◌≡◌, ◌≢◌, ◌⊎◌, inl, inr, ℕ, suc, ◌+◌, ◌<◌, ◌≤◌, Bool, true, false, cond, eqb, List, [], ◌∷◌, ◌++◌, map, length, refl, sym, ap, ap₂, subst, ◌∙◌, arith}
 use Rattle.std.specs.Prelude.{Option, Some, None, find, filter}
-use Rattle.std.specs.List.{range_with_len}
 use Rattle.std.specs.Option.{option_map, option_or}
 use Rattle.std.proofs.lemmas.Bool.{cond_both, eqb-true, eqb-false, eq-eqb, ne_eqb, true≢false}
 use Rattle.std.proofs.lemmas.List.{length-append}
 use Rattle.std.proofs.lemmas.List.Folds.{find-append}
+use Rattle.fax_core.specs.Sound.{AscendBetween}
 
 -- ---- what is found
 
@@ -36,39 +36,39 @@ mapped f (Some x) y e = (x, refl, cc)
 
 -- ---- numbers in order
 
--- where it keeps the numbers, a mapped list is numbered as the list is
-pub numbered_map : {X : Type 0} (num : X → ℕ) (f : X → X) → ((x : X) → num (f x) ≡ num x) → (a : ℕ) (xs : List X) → map num xs ≡ range_with_len a (length xs) → map num (map f xs) ≡ range_with_len a (length (map f xs))
-numbered_map num f same a [] e = refl
-numbered_map num f same a (x ∷ xs) e =
-    let head : num x ≡ a = cc in
-    let rest : map num xs ≡ range_with_len (a + 1) (length xs) = cc in
-    let after = numbered_map num f same (a + 1) xs rest in
-    cc (same x)
+-- where each keeps its number, a mapped list has the numbers of the list
+pub numbers_kept : {X : Type 0} (num : X → ℕ) (f : X → X) → ((x : X) → num (f x) ≡ num x) → (xs : List X) → map num (map f xs) ≡ map num xs
+numbers_kept num f same [] = refl
+numbers_kept num f same (x ∷ xs) = ap₂ ◌∷◌ (same x) (numbers_kept num f same xs)
+
+-- so they ascend as before
+pub ascend_mapped : {X : Type 0} (num : X → ℕ) (f : X → X) → ((x : X) → num (f x) ≡ num x) → (low high : ℕ) (xs : List X) → AscendBetween low (map num xs) high → AscendBetween low (map num (map f xs)) high
+ascend_mapped num f same low high xs h = subst (λ ns. AscendBetween low ns high) (sym (numbers_kept num f same xs)) h
+
+-- with the upper bound at their end, numbers ascend to the next one
+pub ascend_more : {X : Type 0} (num : X → ℕ) (low high : ℕ) (xs : List X) (x : X) → AscendBetween low (map num xs) high → num x ≡ high → AscendBetween low (map num (xs ++ x ∷ [])) (high + 1)
+ascend_more num low high [] x h is = (omega (arith, h, is), omega (arith, is))
+ascend_more num low high (y ∷ ys) x h is = (h.0, ascend_more num (num y) high ys x h.1 is)
+
+-- there are fewer than lie between the bounds
+pub ascend_few : {X : Type 0} (num : X → ℕ) (low high : ℕ) (xs : List X) → AscendBetween low (map num xs) high → low + length xs < high
+ascend_few num low high [] h = omega (arith, h)
+ascend_few num low high (x ∷ xs) h = let rest = ascend_few num (num x) high xs h.1 in omega (arith, rest, h.0)
 
 pub length_map : {X : Type 0} (f : X → X) (xs : List X) → length (map f xs) ≡ length xs
 length_map f [] = refl
 length_map f (x ∷ xs) = ap suc (length_map f xs)
 
--- with the next number at its end, a numbered list is numbered
-pub numbered_more : {X : Type 0} (num : X → ℕ) (a : ℕ) (xs : List X) (x : X) → map num xs ≡ range_with_len a (length xs) → num x ≡ a + length xs → map num (xs ++ x ∷ []) ≡ range_with_len a (length (xs ++ x ∷ []))
-numbered_more num a [] x e n = let here : num x ≡ a = omega arith in ap (λ (k : ℕ). k ∷ []) here
-numbered_more num a (y ∷ ys) x e n =
-    let head : num y ≡ a = cc in
-    let rest : map num ys ≡ range_with_len (a + 1) (length ys) = cc in
-    let after = numbered_more num (a + 1) ys x rest (omega arith) in
-    cc
-
 pub length_more : {X : Type 0} (xs : List X) (x : X) → length (xs ++ x ∷ []) ≡ length xs + 1
 length_more xs x = length-append xs (x ∷ [])
 
--- past the last number nothing is found
-pub absent : {X : Type 0} (num : X → ℕ) (a n : ℕ) (xs : List X) → map num xs ≡ range_with_len a (length xs) → a + length xs ≤ n → find (λ x. eqb (num x) n) xs ≡ None
-absent num a n [] e h = refl
-absent num a n (x ∷ xs) e h =
-    let head : num x ≡ a = cc in
-    let rest : map num xs ≡ range_with_len (a + 1) (length xs) = cc in
-    let other : eqb (num x) n ≡ false = ne_eqb (num x) n (λ (q : num x ≡ n). omega arith) in
-    rw other (absent num (a + 1) n xs rest (omega arith))
+-- from the upper bound on nothing is found
+pub absent : {X : Type 0} (num : X → ℕ) (low high n : ℕ) (xs : List X) → AscendBetween low (map num xs) high → high ≤ n → find (λ x. eqb (num x) n) xs ≡ None
+absent num low high n [] h past = refl
+absent num low high n (x ∷ xs) h past =
+    let more = ascend_few num (num x) high xs h.1 in
+    let other : eqb (num x) n ≡ false = ne_eqb (num x) n (λ (q : num x ≡ n). omega (arith, more, past, q)) in
+    rw other (absent num (num x) high n xs h.1 past)
 
 -- ---- one more at the end
 
@@ -190,24 +190,19 @@ pub of_filter : {X : Type 0} (p : X → Bool) (xs : List X) (x : X) → In x (fi
 of_filter p [] x i = absurd i
 of_filter p (y ∷ ys) x i = of_filter_by p y ys x (p y) refl i (of_filter p ys x)
 
--- what is in a numbered list has the first number at least
-at_least : {X : Type 0} (num : X → ℕ) (a : ℕ) (xs : List X) (x : X) → map num xs ≡ range_with_len a (length xs) → In x xs → a ≤ num x
-at_least num a [] x e i = absurd i
-at_least num a (y ∷ ys) x e (inl s) = let head : num y ≡ a = cc in let same : num y ≡ num x = ap num s in omega arith
-at_least num a (y ∷ ys) x e (inr i) =
-    let rest : map num ys ≡ range_with_len (a + 1) (length ys) = cc in
-    let more = at_least num (a + 1) ys x rest i in
-    omega arith
+-- what is in a list whose numbers ascend has one above the lower bound
+pub above : {X : Type 0} (num : X → ℕ) (low high : ℕ) (xs : List X) (x : X) → AscendBetween low (map num xs) high → In x xs → low < num x
+above num low high [] x h i = absurd i
+above num low high (y ∷ ys) x h (inl s) = let same : num y ≡ num x = ap num s in omega (arith, same, h.0)
+above num low high (y ∷ ys) x h (inr i) = let more = above num (num y) high ys x h.1 i in omega (arith, more, h.0)
 
 -- an element is found by its number
-pub in_found : {X : Type 0} (num : X → ℕ) (a : ℕ) (xs : List X) (x : X) → map num xs ≡ range_with_len a (length xs) → In x xs → find (λ y. eqb (num y) (num x)) xs ≡ Some x
-in_found num a [] x e i = absurd i
-in_found {X} num a (y ∷ ys) x e (inl s) =
+pub in_found : {X : Type 0} (num : X → ℕ) (low high : ℕ) (xs : List X) (x : X) → AscendBetween low (map num xs) high → In x xs → find (λ y. eqb (num y) (num x)) xs ≡ Some x
+in_found num low high [] x h i = absurd i
+in_found {X} num low high (y ∷ ys) x h (inl s) =
     let here : eqb (num y) (num x) ≡ true = eq-eqb (num y) (num x) (ap num s) in
     ap (λ b. cond b (Some y) (find (λ y. eqb (num y) (num x)) ys)) here ∙ ap (λ (z : X). Some z) s
-in_found num a (y ∷ ys) x e (inr i) =
-    let head : num y ≡ a = cc in
-    let rest : map num ys ≡ range_with_len (a + 1) (length ys) = cc in
-    let more = at_least num (a + 1) ys x rest i in
-    let other : eqb (num y) (num x) ≡ false = ne_eqb (num y) (num x) (λ (q : num y ≡ num x). omega arith) in
-    ap (λ b. cond b (Some y) (find (λ y. eqb (num y) (num x)) ys)) other ∙ in_found num (a + 1) ys x rest i
+in_found num low high (y ∷ ys) x h (inr i) =
+    let more = above num (num y) high ys x h.1 i in
+    let other : eqb (num y) (num x) ≡ false = ne_eqb (num y) (num x) (λ (q : num y ≡ num x). omega (arith, more, q)) in
+    ap (λ b. cond b (Some y) (find (λ y. eqb (num y) (num x)) ys)) other ∙ in_found num (num y) high ys x h.1 i

@@ -268,7 +268,7 @@ step_refused s m t ask e k h x = act_refused s (aged t m) t ask e k (aged_sound 
 pub held_told : (m : Queue) (modem : List ℕ) (g : Grant) → Sound m → held_by modem m ≡ Some g → TellsHeld m modem (is_some g.call) (handed g m)
 held_told m modem g h e =
     let f = of_filter (λ (x : Grant). x.is_open) m.grants g (found_in (λ (x : Grant). bytes_eq x.modem modem) (open_grants m) g e) in
-    let is_open : IsOpen m g.number g = (in_found (λ (x : Grant). x.number) 1 m.grants g h.grants f.0, f.1) in
+    let is_open : IsOpen m g.number g = (in_found (λ (x : Grant). x.number) 0 m.next_grant m.grants g h.grants f.0, f.1) in
     let held = h.held g.number g is_open in
     record {
       grant = g;

@@ -1,5 +1,5 @@
 -- A step from a sound queue leaves a sound queue.
-use Rattle.std.proofs.Common.{◌≡◌, ◌≢◌, ℕ, Bool, true, false, cond, not, eqb, List, [], ◌∷◌, refl, sym, ap, subst, ◌∙◌}
+use Rattle.std.proofs.Common.{◌≡◌, ◌≢◌, ℕ, Bool, true, false, cond, not, eqb, List, [], ◌∷◌, refl, sym, ap, subst, ◌∙◌, arith}
 use Rattle.std.specs.Prelude.{Option, Some, None, Result, Ok, Err, max}
 use Rattle.std.specs.Str.{bytes_eq}
 use Rattle.std.specs.Cmp.Lexicographic.{bytes_decides}
@@ -98,8 +98,8 @@ on_grant_sound s m t a x (Some g) n r is h e = on_both_sound s m t a x g (job_nu
 
 -- a mark leaves the queue sound
 mark_sound : (m : Queue) (modem : List ℕ) (down : Bool) → Sound m → Sound (with_mark modem down m)
-mark_sound m modem true h = record { jobs = h.jobs; next_job = h.next_job; grants = h.grants; next_grant = h.next_grant; one_to_a_modem = h.one_to_a_modem; one_of_a_job = h.one_of_a_job; held = h.held; free = h.free }
-mark_sound m modem false h = record { jobs = h.jobs; next_job = h.next_job; grants = h.grants; next_grant = h.next_grant; one_to_a_modem = h.one_to_a_modem; one_of_a_job = h.one_of_a_job; held = h.held; free = h.free }
+mark_sound m modem true h = record { jobs = h.jobs; grants = h.grants; one_to_a_modem = h.one_to_a_modem; one_of_a_job = h.one_of_a_job; held = h.held; free = h.free }
+mark_sound m modem false h = record { jobs = h.jobs; grants = h.grants; one_to_a_modem = h.one_to_a_modem; one_of_a_job = h.one_of_a_job; held = h.held; free = h.free }
 
 -- so does a request that marks a modem
 marked_by : (m : Queue) (modem : List ℕ) (down b : Bool) (n : Queue) (r : Reply) → Sound m → cond b (Taken (with_mark modem down m) (Marked down)) (Refused NoModem NoKeys) ≡ Taken n r → Sound n
@@ -206,10 +206,8 @@ run_sound s m (r ∷ rs) h lawful = run_sound s (left_by m (decided s m r)) rs (
 -- the empty queue is sound
 pub empty_sound : Sound Rattle.fax_core.specs.Queue.empty_queue
 empty_sound = record {
-  jobs = refl;
-  next_job = refl;
-  grants = refl;
-  next_grant = refl;
+  jobs = omega arith;
+  grants = omega arith;
   one_to_a_modem = λ a b g h o p e. cc (o.0);
   one_of_a_job = λ a b g h o p e. cc (o.0);
   held = λ a g o. cc (o.0);

@@ -26,7 +26,7 @@ use Rattle.fax_core.specs.Job.{Job, HasPages, job_of, fields_of}
 use Rattle.fax_core.specs.Machine.{step}
 use Rattle.fax_core.specs.Queue.{Queue, grant_numbered}
 use Rattle.fax_core.specs.Refusals.{may_meet, goes_with}
-use Rattle.fax_core.specs.Reply.{Reply, Handed, Brought, NoneToSend, Given, Keys, HeldGrant, Taken, Refused}
+use Rattle.fax_core.specs.Reply.{Reply, Handed, Submitted, Brought, NoneToSend, Given, Keys, HeldGrant, Taken, Refused}
 use Rattle.fax_core.specs.Run.{Request, decided, queue_after, AreLawful}
 use Rattle.fax_core.specs.Settings.{Settings}
 use Rattle.fax_core.specs.Sound.{Fits, IsJob, IsOpen, Sound}
@@ -219,6 +219,23 @@ NothingIsLeftOut =
 -- a ready job is due, so who looks for the best may pass over jobs that aren't
 abbrev pub ReadyJobsAreDue : Type 0
 ReadyJobsAreDue = (s : Settings) (m : Queue) (t : ℕ) (j : Job) → state s m t j ≡ state_number Ready → is_due j t ≡ true
+
+-- ---- numbers
+
+-- a new job or grant has the next number, and the next number is one more; no other reply changes a next number
+abbrev pub NumbersAfter : Queue → Queue → Reply → Type 0
+NumbersAfter before after (Submitted job) = (job ≡ before.next_job) × (after.next_job ≡ before.next_job + 1) × (after.next_grant ≡ before.next_grant)
+NumbersAfter before after (Brought job state) = (job ≡ before.next_job) × (after.next_job ≡ before.next_job + 1) × (after.next_grant ≡ before.next_grant)
+NumbersAfter before after (Given handed) = (handed.grant ≡ before.next_grant) × (after.next_grant ≡ before.next_grant + 1) × (after.next_job ≡ before.next_job)
+NumbersAfter before after other = (after.next_job ≡ before.next_job) × (after.next_grant ≡ before.next_grant)
+
+-- so each taken step numbers what it makes
+abbrev pub StepsNumberNext : Type 0
+StepsNumberNext = (s : Settings) (m n : Queue) (t : ℕ) (ask : Ask) (reply : Reply) → step s m t ask ≡ Taken n reply → NumbersAfter m n reply
+
+-- and no run lowers a next number, so no number is given twice
+abbrev pub NextNumbersRise : Type 0
+NextNumbersRise = (s : Settings) (m : Queue) (rs : List Request) → (m.next_job ≤ (queue_after s m rs).next_job) × (m.next_grant ≤ (queue_after s m rs).next_grant)
 
 -- ---- the clock
 

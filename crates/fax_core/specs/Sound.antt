@@ -1,6 +1,5 @@
 -- What holds of every queue that the machine makes.
-use Rattle.std.specs.Prelude.{◌≡◌, ◌≢◌, ℕ, ◌+◌, ◌<◌, ◌≤◌, true, map, length, ⊤, Option, Some, None}
-use Rattle.std.specs.List.{range_with_len}
+use Rattle.std.specs.Prelude.{◌≡◌, ◌≢◌, ℕ, ◌+◌, ◌<◌, ◌≤◌, true, List, [], ◌∷◌, map, length, ⊤, Option, Some, None}
 use Rattle.fax_job.specs.declared.job.Phase.{Phase}
 use Rattle.fax_job.specs.declared.job.Phase.TheVariants.{Held, Waiting, Granted, Done, Failed}
 use Rattle.fax_job.specs.declared.job.Wish.TheVariants.{Go}
@@ -62,13 +61,16 @@ IsJob m n j = job_numbered n m ≡ Some j
 abbrev pub IsOpen : Queue → ℕ → Grant → Type 0
 IsOpen m n g = (grant_numbered n m ≡ Some g) × (g.is_open ≡ true)
 
+-- the numbers ascend, each above the first bound and below the second
+abbrev pub AscendBetween : ℕ → List ℕ → ℕ → Type 0
+AscendBetween low [] high = low < high
+AscendBetween low (n ∷ ns) high = (low < n) × AscendBetween n ns high
+
 -- a sound queue
 pub record Sound (m : Queue) : Type 0 where
-  -- jobs and grants are numbered from 1 to the one before the next
-  pub jobs : map (λ j. j.number) m.jobs ≡ range_with_len 1 (length m.jobs)
-  pub next_job : m.next_job ≡ length m.jobs + 1
-  pub grants : map (λ g. g.number) m.grants ≡ range_with_len 1 (length m.grants)
-  pub next_grant : m.next_grant ≡ length m.grants + 1
+  -- jobs and grants are in ascending order of their numbers, each from 1 and below the next number; there may be gaps
+  pub jobs : AscendBetween 0 (map (λ j. j.number) m.jobs) m.next_job
+  pub grants : AscendBetween 0 (map (λ g. g.number) m.grants) m.next_grant
   -- a modem holds at most one open grant, and so does a job
   pub one_to_a_modem : (a b : ℕ) (g h : Grant) → IsOpen m a g → IsOpen m b h → g.modem ≡ h.modem → a ≡ b
   pub one_of_a_job : (a b : ℕ) (g h : Grant) → IsOpen m a g → IsOpen m b h → g.job ≡ h.job → a ≡ b

@@ -3,7 +3,7 @@
 //! Each function here does nothing: its contract is the law, for all settings, queues, moments and
 //! requests. The statements stand in `specs/Laws.antt`.
 
-ghost use Rattle.fax_core.specs.Laws.{StepsStaySound, RunsStaySound, RunsHoldOnce, GivenJobsAreFree, PageReportsConfirm, StepsKeepSent, RunsKeepSent, PagesAreGrantedNoMore, BroughtPagesAreNotGranted, PagesRise, RefusalsAreMet, KeysGoWithRefusals, BusyModemsAreTold, BestIsGiven, OneIsBest, NothingIsLeftOut, ReadyJobsAreDue, TakenStepsSetTheClock, RequestsSetTheClock, ClocksGoForward, RecordsAreJobs, JobsAreRecords, FitsIsDecided, RequestsKeepRecords, AlterationsKeepRecords, GrantsKeepRecords, ReportsKeepRecords};
+ghost use Rattle.fax_core.specs.Laws.{StepsStaySound, RunsStaySound, RunsHoldOnce, GivenJobsAreFree, PageReportsConfirm, StepsKeepSent, RunsKeepSent, PagesAreGrantedNoMore, BroughtPagesAreNotGranted, PagesRise, RefusalsAreMet, KeysGoWithRefusals, BusyModemsAreTold, BestIsGiven, OneIsBest, NothingIsLeftOut, StepsNumberNext, NextNumbersRise, ReadyJobsAreDue, TakenStepsSetTheClock, RequestsSetTheClock, ClocksGoForward, RecordsAreJobs, JobsAreRecords, FitsIsDecided, RequestsKeepRecords, AlterationsKeepRecords, GrantsKeepRecords, ReportsKeepRecords};
 ghost use Rattle.fax_core.specs.Import.{ReadImportsAreLawful};
 ghost use Rattle.fax_core.specs.Reasons.{RefusalsHaveReasons};
 ghost use Rattle.fax_core.specs.Queue.{empty_queue};
@@ -57,6 +57,12 @@ pub fn the_choice()
     ensures alone { OneIsBest }
     ensures nothing { NothingIsLeftOut }
     ensures due { ReadyJobsAreDue }
+{}
+
+/// A new job or grant has the next number, and no step lowers a next number, so no number is given twice.
+pub fn numbers()
+    ensures step { StepsNumberNext }
+    ensures run { NextNumbersRise }
 {}
 
 /// A taken step sets the clock to its moment, the later of the request's and the clock's, so the clock

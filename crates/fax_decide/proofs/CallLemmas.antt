@@ -1,7 +1,6 @@
 -- How many calls are open to a number, after a change of a job or a grant.
-use Rattle.std.proofs.Common.{◌≡◌, inl, inr, ℕ, ◌+◌, ◌-◌, ◌<◌, ◌==◌, eqb, Bool, true, false, ◌&&◌, List, [], ◌∷◌, length, map, Option, Some, None, find, option_map, bytes_eq, refl, sym, ap, ap₂, subst, ◌∙◌, arith, eqb-true, ne_eqb}
+use Rattle.std.proofs.Common.{◌≡◌, inl, inr, ℕ, ◌+◌, ◌-◌, ◌≤◌, ◌==◌, eqb, Bool, true, false, ◌&&◌, List, [], ◌∷◌, length, map, Option, Some, None, find, option_map, bytes_eq, refl, sym, ap, ap₂, subst, ◌∙◌, arith, eqb-true, ne_eqb}
 use Rattle.std.specs.Cmp.Lexicographic.{bytes_decides}
-use Rattle.std.specs.List.{range_with_len}
 use Rattle.std.proofs.lemmas.Bool.{cases_Bool}
 use Rattle.fax_core.specs.Ageing.{aged, aged_job}
 use Rattle.fax_core.specs.Job.{Job}
@@ -9,7 +8,7 @@ use Rattle.fax_core.specs.Machine.{with_job, with_grant}
 use Rattle.fax_core.specs.Queue.{Queue, job_numbered, grant_numbered}
 use Rattle.fax_core.specs.State.{is_of_number, calls_to, state, state_at}
 use Rattle.fax_core.specs.Settings.{Settings}
-use Rattle.fax_core.specs.Sound.{Sound}
+use Rattle.fax_core.specs.Sound.{AscendBetween, Sound}
 use Rattle.fax_core.specs.declared.grants.Grant.{Grant}
 use Rattle.fax_core.proofs.DecisionLemmas.{aged_number}
 use Rattle.fax_core.proofs.KeepLemmas.{numbered_job, same_job}
@@ -52,32 +51,28 @@ state_changed s m t j k is same =
 -- ---- a grant is closed
 
 -- a grant that isn't there takes no place
-untouched : (k : Grant) (a : ℕ) (gs : List Grant) → map (λ g. g.number) gs ≡ range_with_len a (length gs) → k.number < a → map (in_place (λ (g : Grant). g.number) k) gs ≡ gs
-untouched k a [] is less = refl
-untouched k a (g ∷ gs) is less =
-    let first : g.number ≡ a = (let e = is in cc) in
-    let rest : map (λ (h : Grant). h.number) gs ≡ range_with_len (a + 1) (length gs) = (let e = is in cc) in
-    let off : eqb g.number k.number ≡ false = ne_eqb g.number k.number (λ (same : g.number ≡ k.number). omega (arith, first, less)) in
-    (rw off (ap (λ (hs : List Grant). g ∷ hs) (untouched k (a + 1) gs rest (omega (arith, less)))))
+untouched : (k : Grant) (low high : ℕ) (gs : List Grant) → AscendBetween low (map (λ g. g.number) gs) high → k.number ≤ low → map (in_place (λ (g : Grant). g.number) k) gs ≡ gs
+untouched k low high [] ascend less = refl
+untouched k low high (g ∷ gs) ascend less =
+    let off : eqb g.number k.number ≡ false = ne_eqb g.number k.number (λ (same : g.number ≡ k.number). omega (arith, ascend.0, less, same)) in
+    (rw off (ap (λ (hs : List Grant). g ∷ hs) (untouched k g.number high gs ascend.1 (omega (arith, ascend.0, less)))))
 
 -- where an open grant that passes is closed in its place, one less is open
-one_less : (of : Grant → Bool) (k g : Grant) (a : ℕ) (gs : List Grant) → map (λ h. h.number) gs ≡ range_with_len a (length gs) → find (λ h. eqb h.number k.number) gs ≡ Some g
+one_less : (of : Grant → Bool) (k g : Grant) (low high : ℕ) (gs : List Grant) → AscendBetween low (map (λ h. h.number) gs) high → find (λ h. eqb h.number k.number) gs ≡ Some g
     → k.is_open ≡ false → g.is_open ≡ true → of g ≡ true → open_to of (map (in_place (λ (h : Grant). h.number) k) gs) + 1 ≡ open_to of gs
-one_less of k g a [] is found shut open' counts = absurd cc
-one_less of k g a (h ∷ gs) is found shut open' counts =
-    let first : h.number ≡ a = (let e = is in cc) in
-    let rest : map (λ (x : Grant). x.number) gs ≡ range_with_len (a + 1) (length gs) = (let e = is in cc) in
+one_less of k g low high [] ascend found shut open' counts = absurd cc
+one_less of k g low high (h ∷ gs) ascend found shut open' counts =
     elim (cases_Bool (eqb h.number k.number)) [
       | inl here ↦
           let same : h ≡ g = (let f = (rw here at found) in cc) in
           let number : h.number ≡ k.number = eqb-true h.number k.number here in
-          let ends : map (in_place (λ (x : Grant). x.number) k) gs ≡ gs = untouched k (a + 1) gs rest (omega (arith, number, first)) in
+          let ends : map (in_place (λ (x : Grant). x.number) k) gs ≡ gs = untouched k h.number high gs ascend.1 (omega (arith, number)) in
           (rw here (rw ends (
           let left : open_to of (k ∷ gs) ≡ 0 + open_to of gs = open_more of k gs ∙ ap (λ b. one (b && of k) + open_to of gs) shut in
           let right : open_to of (h ∷ gs) ≡ 1 + open_to of gs = open_more of h gs ∙ ap₂ (λ b c. one (b && c) + open_to of gs) (ap (λ (x : Grant). x.is_open) same ∙ open') (ap of same ∙ counts) in
           omega (arith, left, right))))
       | inr off ↦
-          let tail = one_less of k g (a + 1) gs rest (rw off at found) shut open' counts in
+          let tail = one_less of k g h.number high gs ascend.1 (rw off at found) shut open' counts in
           let left = open_more of h (map (in_place (λ (x : Grant). x.number) k) gs) in
           let right = open_more of h gs in
           (rw off (omega (arith, left, right, tail)))
@@ -96,7 +91,7 @@ state_ended s m t j k g sound is same of there open' =
     less : calls_to j.dial (with_grant (record g { is_open = false }) (with_job j (aged t m))) + 1 ≡ calls_to j.dial (with_job j (aged t m))
     less =
         one_less (λ (h : Grant). is_of_number j.dial (job_numbered h.job (with_job j (aged t m))))
-        (record g { is_open = false }) g 1 m.grants sound.grants there refl open'
+        (record g { is_open = false }) g 0 m.next_grant m.grants sound.grants there refl open'
         (ap (is_of_number j.dial) placed' ∙ (bytes_decides j.dial j.dial).1 refl)
 
     before : calls_to j.dial (with_job j (aged t m)) ≡ calls_to j.dial m

@@ -127,7 +127,7 @@ module _ (s : Settings) (m : Queue) (t : ℕ) (modem : List ℕ) (jobs : List Jo
   may_go_of j h =
       let parts = and_parts (eqb (state s m t j) 5) (s.admits j.modem modem) h.1 in
       record {
-        there = in_found (λ (k : Job). k.number) 1 (aged t m).jobs j (aged_sound t m sound).jobs (in_had (aged t m).jobs j (waiting_aged m t jobs w j h.0));
+        there = in_found (λ (k : Job). k.number) 0 m.next_job (aged t m).jobs j (aged_sound t m sound).jobs (in_had (aged t m).jobs j (waiting_aged m t jobs w j h.0));
         ready = state_aged s m t j ∙ eqb-true (state s m t j) 5 parts.0;
         admitted = parts.1;
       }
@@ -174,7 +174,7 @@ first_read s m t modem sound lawful found first = subst Says (sym first.2) (by (
     by (Some j) e =
         let there = (waiting_due m t first.0 first.1 j (has_found (may_go s m t modem) first.0 j e).0).0 in (
           j,
-          in_found number_of 1 m.jobs j sound.jobs (in_had m.jobs j there),
+          in_found number_of 0 m.next_job m.jobs j sound.jobs (in_had m.jobs j there),
           all_has IsLawfulJob m.jobs j (recursion_from_All IsLawfulJob m.jobs lawful) there,
           sym e ∙ first_waiting s m t modem first.0 sound first.1,
         )

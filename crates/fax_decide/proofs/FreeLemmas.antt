@@ -1,6 +1,5 @@
 -- A new job and a new grant come last, and what is accepted of a sound queue, and leaves one, has keys that were free.
-use Rattle.std.proofs.Common.{◌≡◌, inl, inr, ℕ, ◌+◌, true, List, [], ◌∷◌, ◌++◌, map, length, find, Some, None, refl, sym, ap, subst, ◌∙◌, arith, nat_lt, ◌==◌, bytes_eq, eq-eqb, cond, lt-ltb, ltb}
-use Rattle.std.specs.List.{range_with_len}
+use Rattle.std.proofs.Common.{◌≡◌, ◌⊎◌, inl, inr, ℕ, ◌≤◌, Bool, true, false, List, [], ◌∷◌, ◌++◌, map, find, Some, None, refl, sym, ap, subst, ◌∙◌, arith, nat_lt, ◌==◌, bytes_eq, cond, eqb, lt-ltb, ltb, ltb-true, ne_eqb}
 use Rattle.std.proofs.lemmas.Bool.{cases_Bool}
 use Rattle.std.proofs.lemmas.Slice.Eq.{bytes_eq-Decides}
 use Rattle.fax_core.specs.declared.grants.Grant.{Grant}
@@ -8,8 +7,8 @@ use Rattle.fax_core.specs.Ageing.{aged_job}
 use Rattle.fax_core.specs.Job.{Job, job_of}
 use Rattle.fax_core.specs.Machine.{held_by}
 use Rattle.fax_core.specs.Queue.{Queue, grant_numbered, open_grants}
-use Rattle.fax_core.specs.Sound.{IsOpen, Sound}
-use Rattle.fax_core.proofs.PlaceLemmas.{In, absent, comes, found, found_in, stays}
+use Rattle.fax_core.specs.Sound.{AscendBetween, IsOpen, Sound}
+use Rattle.fax_core.proofs.PlaceLemmas.{In, ascend_few, found, found_in, in_found, of_filter}
 use Rattle.fax_core.proofs.StepLemmas.{aged_sound}
 use Rattle.fax_tables.specs.Place.{placed}
 use Rattle.fax_store.specs.Grant.{IsNewGrant}
@@ -21,67 +20,75 @@ use Rattle.fax_decide.proofs.RecordLemmas.{in_had, none_by, open_there}
 
 -- ---- what is new comes last
 
--- what has the next number among numbers without a gap is put at the end
-last_placed : {X : Type 0} (number : X → ℕ) (a : ℕ) (x : X) (xs : List X) → map number xs ≡ range_with_len a (length xs) → number x ≡ a + length xs → placed number x xs ≡ xs ++ x ∷ []
-last_placed number a x [] e n = refl
-last_placed number a x (y ∷ ys) e n =
-    let head : number y ≡ a = cc in
-    let rest : map number ys ≡ range_with_len (a + 1) (length ys) = cc in
-    let before : ltb (number y) (number x) ≡ true = lt-ltb (number y) (number x) (omega arith) in
-    ap (λ b. cond b (y ∷ placed number x ys) (x ∷ y ∷ ys)) before ∙ ap (λ l. y ∷ l) (last_placed number (a + 1) x ys rest (omega arith))
+-- what has the next number is put at the end
+last_placed : {X : Type 0} (number : X → ℕ) (low high : ℕ) (x : X) (xs : List X) → AscendBetween low (map number xs) high → number x ≡ high → placed number x xs ≡ xs ++ x ∷ []
+last_placed number low high x [] ascend n = refl
+last_placed number low high x (y ∷ ys) ascend n =
+    let few = ascend_few number (number y) high ys ascend.1 in
+    let before : ltb (number y) (number x) ≡ true = lt-ltb (number y) (number x) (omega (arith, few, n)) in
+    ap (λ b. cond b (y ∷ placed number x ys) (x ∷ y ∷ ys)) before ∙ ap (λ l. y ∷ l) (last_placed number (number y) high x ys ascend.1 n)
 
 -- a job of the next number comes after those of a sound queue
 pub job_placed : (m : Queue) (j : Job) → Sound m → j.number ≡ m.next_job → placed (λ (k : Job). k.number) j m.jobs ≡ m.jobs ++ j ∷ []
-job_placed m j h n = last_placed (λ (k : Job). k.number) 1 j m.jobs h.jobs (omega (arith, h.next_job))
+job_placed m j h n = last_placed (λ (k : Job). k.number) 0 m.next_job j m.jobs h.jobs n
 
 -- a grant of the next number comes after those of a sound queue
 pub grant_placed : (m : Queue) (g : Grant) → Sound m → g.number ≡ m.next_grant → placed (λ (h : Grant). h.number) g m.grants ≡ m.grants ++ g ∷ []
-grant_placed m g h n = last_placed (λ (h : Grant). h.number) 1 g m.grants h.grants (omega (arith, h.next_grant))
+grant_placed m g h n = last_placed (λ (h : Grant). h.number) 0 m.next_grant g m.grants h.grants n
 
 -- ---- keys that were free
 
--- what is put among numbers without a gap, so that there is none, comes last
-last_number : {X : Type 0} (number : X → ℕ) (a : ℕ) (x : X) (xs : List X) → map number xs ≡ range_with_len a (length xs) → map number (placed number x xs) ≡ range_with_len a (length (placed number x xs)) → number x ≡ a + length xs
-last_number number a x [] before after = let head : number x ≡ a = cc in omega arith
-last_number number a x (y ∷ ys) before after = elim (cases_Bool (nat_lt (number y) (number x))) [
-  | inl below ↦
-      (let all : number y ∷ map number (placed number x ys) ≡ range_with_len a (length (y ∷ placed number x ys)) = rw below at after in
-      let rest : map number (placed number x ys) ≡ range_with_len (a + 1) (length (placed number x ys)) = cc in
-      let others : map number ys ≡ range_with_len (a + 1) (length ys) = cc in
-      omega (arith, last_number number (a + 1) x ys others rest))
-  | inr above ↦
-      (let all : number x ∷ number y ∷ map number ys ≡ range_with_len a (length (x ∷ y ∷ ys)) = rw above at after in
-      let second : number y ≡ a + 1 = cc in
-      let first : number y ≡ a = cc in
-      absurd (omega (arith, first, second)))
+-- what is put among others is there with them, whether it is put before the first or later
+put_by : {X : Type 0} (b : Bool) (x y z : X) (ys zs : List X) → (x ≡ z) ⊎ ((y ≡ z) ⊎ In z ys) → (In z zs → In z zs) → ((x ≡ z) ⊎ In z ys → In z zs) → In z (cond b (y ∷ zs) (x ∷ y ∷ ys))
+put_by true x y z ys zs (inl here) same rest = inr (rest (inl here))
+put_by true x y z ys zs (inr (inl first)) same rest = inl first
+put_by true x y z ys zs (inr (inr more)) same rest = inr (rest (inr more))
+put_by false x y z ys zs is same rest = is
+
+-- what is put in, and what was there, is in the list
+in_placed : {X : Type 0} (number : X → ℕ) (x z : X) (xs : List X) → (x ≡ z) ⊎ In z xs → In z (placed number x xs)
+in_placed number x z [] is = is
+in_placed number x z (y ∷ ys) is = put_by (nat_lt (number y) (number x)) x y z ys (placed number x ys) is (λ it. it) (in_placed number x z ys)
+
+-- where numbers ascend from a higher one on, a number isn't among them
+below_all : {X : Type 0} (number : X → ℕ) (low high n : ℕ) (xs : List X) → AscendBetween low (map number xs) high → n ≤ low → find (λ x. number x == n) xs ≡ None
+below_all number low high n [] ascend less = refl
+below_all number low high n (x ∷ xs) ascend less =
+    let off : eqb (number x) n ≡ false = ne_eqb (number x) n (λ same. omega (arith, ascend.0, less, same)) in
+    rw off (below_all number (number x) high n xs ascend.1 (omega (arith, ascend.0, less)))
+
+-- where numbers ascend with one that was put in, it wasn't among them
+was_free : {X : Type 0} (number : X → ℕ) (low high : ℕ) (x : X) (xs : List X) → AscendBetween low (map number (placed number x xs)) high → find (λ y. number y == number x) xs ≡ None
+was_free number low high x [] after = refl
+was_free number low high x (y ∷ ys) after = elim (cases_Bool (nat_lt (number y) (number x))) [
+  | inl less ↦
+      (let all : AscendBetween low (number y ∷ map number (placed number x ys)) high = rw less at after in
+      let off : eqb (number y) (number x) ≡ false = ne_eqb (number y) (number x) (λ same. (let under = ltb-true (number y) (number x) less in omega (arith, under, same))) in
+      rw off (was_free number (number y) high x ys all.1))
+  | inr more ↦
+      (let all : AscendBetween low (number x ∷ number y ∷ map number ys) high = rw more at after in
+      below_all number (number x) high (number x) (y ∷ ys) all.1 (omega arith))
 ]
 
 -- a job that leaves a sound queue has a number that none had
-job_free : (t : ℕ) (j : Job) (m : Queue) → Sound m → map (λ (k : Job). k.number) (placed (λ (k : Job). k.number) j (map (aged_job t) m.jobs)) ≡ range_with_len 1 (length (placed (λ (k : Job). k.number) j (map (aged_job t) m.jobs)))
-    → IsNewJob j (with_expired t m)
-job_free t j m sound after =
-    let jobs = map (aged_job t) m.jobs in
-    let before : map (λ (k : Job). k.number) jobs ≡ range_with_len 1 (length jobs) = (aged_sound t m sound).jobs in
-    let next = last_number (λ (k : Job). k.number) 1 j jobs before after in
-    absent (λ (k : Job). k.number) 1 j.number jobs before (omega (arith, next))
+job_free : (t : ℕ) (j : Job) (m : Queue) (next : ℕ) → AscendBetween 0 (map (λ (k : Job). k.number) (placed (λ (k : Job). k.number) j (map (aged_job t) m.jobs))) next → IsNewJob j (with_expired t m)
+job_free t j m next after = was_free (λ (k : Job). k.number) 0 next j (map (aged_job t) m.jobs) after
 
 -- a grant that leaves one has such a number, and neither its modem nor its job held one
 module _ (m after : Queue) (g : Grant) (sound : Sound m) (still : Sound after) (is : after.grants ≡ placed (λ (h : Grant). h.number) g m.grants) (is_open : g.is_open ≡ true) where
-  -- the grant has the next number
-  next : g.number ≡ 1 + length m.grants
-  next = last_number (λ (h : Grant). h.number) 1 g m.grants sound.grants (subst (λ (gs : List Grant). map (λ (h : Grant). h.number) gs ≡ range_with_len 1 (length gs)) is still.grants)
-
-  -- so the queue has no grant of it
+  -- the queue has no grant of its number
   unknown : grant_numbered g.number m ≡ None
-  unknown = absent (λ (h : Grant). h.number) 1 g.number m.grants sound.grants (omega (arith, next))
+  unknown = was_free (λ (h : Grant). h.number) 0 after.next_grant g m.grants (subst (λ (gs : List Grant). AscendBetween 0 (map (λ (h : Grant). h.number) gs) after.next_grant) is still.grants)
 
-  -- it comes at the end
-  grants_are : after.grants ≡ m.grants ++ g ∷ []
-  grants_are = is ∙ grant_placed m g sound (omega (arith, next, sound.next_grant))
+  -- what is in the queue afterwards is found by its number
+  found_after : (h : Grant) → (g ≡ h) ⊎ In h m.grants → grant_numbered h.number after ≡ Some h
+  found_after h there =
+      in_found (λ (x : Grant). x.number) 0 after.next_grant after.grants h still.grants
+      (subst (In h) (sym is) (in_placed (λ (x : Grant). x.number) g h m.grants there))
 
   -- it is open afterwards
   new_open : IsOpen after g.number g
-  new_open = (ap (find (λ (h : Grant). h.number == g.number)) grants_are ∙ comes (λ (h : Grant). h.number == g.number) m.grants g unknown (eq-eqb g.number g.number refl), is_open)
+  new_open = (found_after g (inl refl), is_open)
 
   -- one that was open is so still, and is another
   module _ (h : Grant) (there : In h (open_grants m)) where
@@ -89,7 +96,7 @@ module _ (m after : Queue) (g : Grant) (sound : Sound m) (still : Sound after) (
     old_open : IsOpen after h.number h
     old_open =
         let was = open_there m h sound there in
-        (ap (find (λ (x : Grant). x.number == h.number)) grants_are ∙ stays (λ (x : Grant). x.number == h.number) m.grants g h was.0, was.1)
+        (found_after h (inr (of_filter (λ (x : Grant). x.is_open) m.grants h there).0), was.1)
 
     -- its number is another
     other : h.number ≡ g.number → ⊥
@@ -108,7 +115,7 @@ module _ (m after : Queue) (g : Grant) (sound : Sound m) (still : Sound after) (
 
 -- so what is accepted takes no key that is taken
 pub keys_free : (t : ℕ) (effect : Effect) (m : Queue) → Sound m → Sound (accepted t effect m) → IsWithin effect (with_expired t m) → IsFree effect (with_expired t m)
-keys_free t (NewJob f meta) m sound still within = job_free t (job_of f) m sound still.jobs
+keys_free t (NewJob f meta) m sound still within = job_free t (job_of f) m (accepted t (NewJob f meta) m).next_job still.jobs
 keys_free t (NewGrant f g) m sound still within =
     let after = accepted t (NewGrant f g) m in
     let free = grant_free m after g sound still refl within.0.is_open in

@@ -47,7 +47,7 @@ in_had (y ∷ ys) x (inr more) = inr (in_had ys x more)
 pub open_there : (m : Queue) (g : Grant) → Sound m → In g (open_grants m) → IsOpen m g.number g
 open_there m g sound there =
     let it = of_filter (λ (x : Grant). x.is_open) m.grants g there in
-    (in_found (λ (x : Grant). x.number) 1 m.grants g sound.grants it.0, it.1)
+    (in_found (λ (x : Grant). x.number) 0 m.next_grant m.grants g sound.grants it.0, it.1)
 
 -- and has its job
 pub has_job : (m : Queue) (g : Grant) → Sound m → Has (open_grants m) g → (j : Job) × (job_numbered g.job m ≡ Some j)

@@ -1,6 +1,5 @@
 -- What is shown of a job, and of all jobs.
-use Rattle.std.proofs.Common.{◌≡◌, ℕ, List, [], ◌∷◌, ◌++◌, All, map, Option, Some, refl, sym, ap, ap₂, ◌∙◌, option_map}
-use Rattle.std.specs.List.{range_with_len}
+use Rattle.std.proofs.Common.{◌≡◌, ℕ, zero, suc, ◌+◌, ◌<◌, List, [], ◌∷◌, ◌++◌, All, get_or, map, Option, Some, refl, sym, ap, ap₂, subst, ◌∙◌, arith, option_map}
 use Rattle.std.specs.List.Sorted.{IsStrictlyIncreasing}
 use Rattle.std.proofs.lemmas.List.{length-map}
 use Rattle.std.proofs.lemmas.List.Elements.{All-head, All-tail}
@@ -16,13 +15,12 @@ use Rattle.fax_core.specs.Ageing.{aged, aged_job}
 use Rattle.fax_core.specs.Job.{Job, fields_of, job_of}
 use Rattle.fax_core.specs.Queue.{Queue, job_numbered}
 use Rattle.fax_core.specs.Settings.{Settings}
-use Rattle.fax_core.specs.Sound.{Sound}
+use Rattle.fax_core.specs.Sound.{AscendBetween, Sound}
 use Rattle.fax_core.specs.State.{calls_to, state}
 use Rattle.fax_core.proofs.DecisionLemmas.{aged_number}
 use Rattle.fax_core.proofs.FitsLemmas.{job_again, record_again}
 use Rattle.fax_tables.specs.Job.{IsLawfulJob, brief}
 use Rattle.fax_text.specs.Listing.{Listed, heading, line_of, listing_of, number_of}
-use Rattle.fax_text.proofs.OrderLemmas.{numbered}
 use Rattle.fax_run.specs.View.{viewed, view, with_state}
 use Rattle.fax_decide.proofs.LinesLemmas.{aged_lined, lined, state_lined}
 use Rattle.fax_decide.proofs.CallLemmas.{state_aged}
@@ -53,11 +51,19 @@ numbers_seen : (s : Settings) (q : Queue) (t : ℕ) (jobs : List Job) → map nu
 numbers_seen s q t [] = refl
 numbers_seen s q t (j ∷ js) = ap₂ ◌∷◌ (aged_number t j) (numbers_seen s q t js)
 
+-- each of ascending numbers is below the next
+increasing : (low high : ℕ) (ns : List ℕ) → AscendBetween low ns high → IsStrictlyIncreasing ns
+increasing low high [] ascend k inside = absurd (omega (arith, inside))
+increasing low high (n ∷ []) ascend k inside = absurd (omega (arith, inside))
+increasing low high (n ∷ o ∷ ns) ascend zero inside = (ascend.1).0
+increasing low high (n ∷ o ∷ ns) ascend (suc k) inside =
+    let on : suc (k + 1) ≡ suc k + 1 = omega arith in
+    subst (λ i. get_or (o ∷ ns) k 0 < get_or (n ∷ o ∷ ns) i 0) on (increasing n high (o ∷ ns) ascend.1 k (omega (arith, inside)))
+
 -- and stand in ascending order of their numbers
 pub rows_ascend : (s : Settings) (m : Queue) (t : ℕ) → Sound m → IsStrictlyIncreasing (map number_of (map (with_state s (aged t m) t) (aged t m).jobs))
 rows_ascend s m t sound =
-    numbered (map (with_state s (aged t m) t) (map (aged_job t) m.jobs)) (numbers_seen s (aged t m) t m.jobs ∙ sound.jobs ∙ ap (range_with_len 1)
-    (sym (length-map (map (aged_job t) m.jobs) (with_state s (aged t m) t) ∙ length-map m.jobs (aged_job t))))
+    increasing 0 m.next_job _ (subst (λ ns. AscendBetween 0 ns m.next_job) (sym (numbers_seen s (aged t m) t m.jobs)) sound.jobs)
 
 -- ---- without the extra lines
 

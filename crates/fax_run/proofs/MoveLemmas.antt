@@ -63,7 +63,7 @@ below m x j h is = elim (cases_Bool (nat_lt x m.next_job)) [
   | inl low ↦ ltb-true x m.next_job low
   | inr high ↦
       let over : m.next_job ≤ x = ltb-false x m.next_job high in
-      let none : job_numbered x m ≡ None = absent (λ (j : Job). j.number) 1 x m.jobs h.jobs (omega (arith, h.next_job, over)) in
+      let none : job_numbered x m ≡ None = absent (λ (j : Job). j.number) 0 m.next_job x m.jobs h.jobs over in
       absurd (let no = sym none ∙ is in cc)
 ]
 
@@ -253,7 +253,7 @@ module _ (m : Queue) (h : Sound m) (g : Grant) (is : g.number ≡ m.next_grant) 
   none_at : (a : ℕ) → eqb g.number a ≡ true → grant_numbered a m ≡ None
   none_at a on =
       let here : a ≡ m.next_grant = sym (eqb-true g.number a on) ∙ is in
-      absent (λ (z : Grant). z.number) 1 a m.grants h.grants (omega (arith, h.next_grant, here))
+      absent (λ (z : Grant). z.number) 0 m.next_grant a m.grants h.grants (omega (arith, here))
 
   -- beside a new grant, each number has the job that it had, or the new one's
   grants_more : (a x : ℕ) (o : Option Grant) (b : Bool) → grant_numbered a m ≡ o → eqb g.number a ≡ b

@@ -104,15 +104,3 @@ rows_are_jobs jobs (row ∷ rest) moved order up =
     let numbers = IsPermutation-map number_of jobs rows moved in
     let same = one_rise 0 0 (map number_of rows) (map number_of jobs) (rows_rise 0 rows order (λ d some. omega arith)) (strict_rises 0 (map number_of jobs) up (λ some. omega arith)) (length_permutation _ _ numbers) (λ f. sum_by-IsPermutation f (map number_of jobs) (map number_of rows) numbers) in
     same_rows row jobs rows up same (λ k inside. Contains-permutation rows jobs (get_or rows k row) (IsPermutation-sym jobs rows moved) (Contains-get_or rows k row inside))
-
--- ---- for callers
-
--- the numbers of a range ascend
-counts_up : (first count : ℕ) → IsStrictlyIncreasing (range_with_len first count)
-counts_up first count k inside =
-    let long = length-range_with_len first count in
-    omega (arith, get_or-range_with_len first count k 0 (omega arith), get_or-range_with_len first count (k + 1) 0 (omega arith))
-
--- jobs with the numbers 1, 2, 3 and so on ascend
-pub numbered : (jobs : List Listed) → map number_of jobs ≡ range_with_len 1 (length jobs) → IsStrictlyIncreasing (map number_of jobs)
-numbered jobs e = subst IsStrictlyIncreasing (sym e) (counts_up 1 (length jobs))

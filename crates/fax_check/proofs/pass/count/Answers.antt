@@ -1,4 +1,4 @@
-use Rattle.std.proofs.Common.{◌+◌, ◌++◌, [], ◌∷◌, All, length-append, MatchOption, sym, ap, subst, ◌∙◌}
+use Rattle.std.proofs.Common.{◌++◌, [], ◌∷◌, All, MatchOption, sym, subst, ◌∙◌}
 use Rattle.fax_check.specs.Pass.{IsStep}
 use Rattle.fax_check.specs.Whole.{Shows}
 use Rattle.fax_check.proofs.TellsLemmas.{pass_more}
@@ -9,31 +9,31 @@ use Rattle.fax_check.proofs.pass.count.Goals as goal
 pub returns-in-End-clause-counted : goal.returns-in-End-clause-counted
 returns-in-End-clause-counted g c sql begun clean =
     let first = c.args.rows.now.conn.now in
-    let mid = c.loop-count.rows.conn.now in
+    let mid = c.loop.rows.conn.now in
     let new = c.next_step.new.rows.conn.now in
     let P = Shows c.args.meta.now c.args.held.now c.args.table in
-    let before = c.loop-count.invariant.counted sql begun (c.in_ok-next_step.ensures.leaves.clean clean) in
+    let before = c.loop.invariant.counted sql begun (c.in_ok-next_step.ensures.leaves.clean clean) in
     let step = subst (IsStep g.S.Store P sql before.0 mid new) c.in-End.is (c.in_ok-next_step.ensures.steps sql before.0 before.1 clean) in
-    (before.0, (mid, sym (c.in_ok-next_step.ensures.leaves.same clean).0.now_is, step), record { count = sym before.2; flaw = before.3 })
+    (before.0, (mid, sym (c.in_ok-next_step.ensures.leaves.same clean).0.now_is, step), before.2)
 
-pub loop-count-preserved : goal.loop-count-preserved
-loop-count-preserved g c =
+pub loop-preserved : goal.loop-preserved
+loop-preserved g c =
     let first = c.args.rows.now.conn.now in
-    let mid = c.loop-count.rows.conn.now in
+    let mid = c.loop.rows.conn.now in
     let new = c.next_step.new.rows.conn.now in
     let P = Shows c.args.meta.now c.args.held.now c.args.table in
     record {
-      same_reference = c.next_step.ensures.same_reference ∙ c.loop-count.invariant.same_reference;
-      passed = pass_more g.S.Store c.loop-count.count first mid new _ c.loop-count.invariant.passed c.in_ok-next_step.ensures.leaves;
+      same_reference = c.next_step.ensures.same_reference ∙ c.loop.invariant.same_reference;
+      passed = pass_more g.S.Store c.loop.counter first mid new _ c.loop.invariant.passed c.in_ok-next_step.ensures.leaves;
       counted = λ sql begun clean.
-          let before = c.loop-count.invariant.counted sql begun (c.in_ok-next_step.ensures.leaves.clean clean) in
+          let before = c.loop.invariant.counted sql begun (c.in_ok-next_step.ensures.leaves.clean clean) in
           let step = c.in_ok-next_step.ensures.steps sql before.0 before.1 clean in
           elim c.match-branch-2.branch [
             | in-Right w ↦
                 (let right = subst (IsStep g.S.Store P sql before.0 mid new) w.in-Right.is step in
-                (before.0 ++ right.0 ∷ [], right.1, length-append before.0 (right.0 ∷ []) ∙ ap (λ n. n + 1) before.2, subst (λ o. MatchOption o (All P (before.0 ++ right.0 ∷ [])) (λ _. ¬ All P (before.0 ++ right.0 ∷ []))) (sym w.flaw-is) (right_flaw P before.0 right.0 c.loop-count.flaw before.3 right.2)))
+                (before.0 ++ right.0 ∷ [], right.1, subst (λ o. MatchOption o (All P (before.0 ++ right.0 ∷ [])) (λ _. ¬ All P (before.0 ++ right.0 ∷ []))) (sym w.flaw-is) (right_flaw P before.0 right.0 c.loop.flaw before.2 right.2)))
             | in-Wrong w ↦
                 (let wrong = subst (IsStep g.S.Store P sql before.0 mid new) w.in-Wrong.is step in
-                (before.0 ++ wrong.0 ∷ [], wrong.1, length-append before.0 (wrong.0 ∷ []) ∙ ap (λ n. n + 1) before.2, subst (λ o. MatchOption o (All P (before.0 ++ wrong.0 ∷ [])) (λ _. ¬ All P (before.0 ++ wrong.0 ∷ []))) (sym w.flaw-is) (subst (λ o. MatchOption o (All P (before.0 ++ wrong.0 ∷ [])) (λ _. ¬ All P (before.0 ++ wrong.0 ∷ []))) (sym w.or-flaw.ensures) (wrong_flaw P before.0 wrong.0 c.loop-count.flaw _ wrong.2))))
+                (before.0 ++ wrong.0 ∷ [], wrong.1, subst (λ o. MatchOption o (All P (before.0 ++ wrong.0 ∷ [])) (λ _. ¬ All P (before.0 ++ wrong.0 ∷ []))) (sym w.flaw-is) (subst (λ o. MatchOption o (All P (before.0 ++ wrong.0 ∷ [])) (λ _. ¬ All P (before.0 ++ wrong.0 ∷ []))) (sym w.or-flaw.ensures) (wrong_flaw P before.0 wrong.0 c.loop.flaw _ wrong.2))))
           ];
     }

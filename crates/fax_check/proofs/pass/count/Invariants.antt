@@ -1,4 +1,4 @@
-use Rattle.std.proofs.Common.{◌≡◌, ℕ, List, [], All, length, MatchOption}
+use Rattle.std.proofs.Common.{◌≡◌, ℕ, List, [], All, MatchOption}
 use Rattle.sqlite.specs.Given.{HasGiven}
 use Rattle.sqlite.specs.Held.{state}
 use Rattle.sqlite.specs.Order.{Row}
@@ -7,11 +7,11 @@ use Rattle.fax_check.specs.Whole.{Shows}
 use Rattle.fax_check.proofs.TellsLemmas.{Passed}
 use Rattle.fax_check.proofs.pass.count.Given as goal
 
--- the rows that were given so far are counted, and the first flaw of them is known
-abbrev pub invariant-loop-count : goal.invariant-loop-count
-invariant-loop-count g l = record {
+-- of the rows that were given so far, the first that isn't as it has to be is known
+abbrev pub invariant-loop : goal.invariant-loop
+invariant-loop g l = record {
   same_reference : l.rows.conn.ghost_name ≡ l.initial.rows.conn.ghost_name;
-  passed : Passed g.S.Store l.count l.initial.rows.conn.now l.rows.conn.now;
+  passed : Passed g.S.Store l.counter l.initial.rows.conn.now l.rows.conn.now;
   counted : (sql : List ℕ) → HasGiven g.S.Store sql [] l.initial.rows.conn.now [] → HasCleanDisk (state g.S.Store l.rows.conn.now)
-      → (given : List Row) × HasGiven g.S.Store sql [] l.rows.conn.now given × (length given ≡ l.count) × MatchOption l.flaw (All (Shows l.meta l.held l.table) given) (λ _. ¬ All (Shows l.meta l.held l.table) given);
+      → (given : List Row) × HasGiven g.S.Store sql [] l.rows.conn.now given × MatchOption l.flaw (All (Shows l.meta l.held l.table) given) (λ _. ¬ All (Shows l.meta l.held l.table) given);
 }

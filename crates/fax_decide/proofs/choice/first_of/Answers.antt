@@ -1,6 +1,7 @@
 use Rattle.std.proofs.Common.{true≢false, ◌≤◌, ℕ, List, length, Ok, sym, subst, ap, ◌∙◌, arith}
 use Rattle.std.specs.Prelude.{◌==◌}
 use Rattle.std.specs.Vec.Iter.{into_iter_items}
+use Rattle.fax_core.proofs.KeepLemmas.{jobs_few}
 use Rattle.fax_store.specs.Candidates.{StandsAt}
 use Rattle.fax_store.specs.declared.candidates.Asked.{Asked}
 use Rattle.fax_decide.specs.Fault.{fault_of}
@@ -61,4 +62,4 @@ returns-clause-consults g c = goes_on c.loop.invariant.consults (λ m k at went 
     let next = at.means.lawful.meta.next_job.1 in
     let counted = none.counted in
     let all : 1000000 ≤ c.loop.counter = omega arith in
-    absurd (omega (arith, few, counted, next, sound.next_job, all)))
+    absurd (omega (arith, few, counted, next, jobs_few m sound, all)))

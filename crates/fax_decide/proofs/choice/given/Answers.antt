@@ -1,4 +1,5 @@
 use Rattle.std.proofs.Common.{ap, arith, ◌∙◌}
+use Rattle.fax_core.proofs.KeepLemmas.{grants_few}
 use Rattle.fax_ask.specs.Answer.{Replied}
 use Rattle.fax_ask.specs.Response.{accepted_response}
 use Rattle.fax_core.specs.Reply.{Given, Handed}
@@ -12,7 +13,7 @@ pub returns : goal.returns
 returns c m t sound there n new keeps =
     taken_or (NewGrant c.in_ok-job.job c.args.grant) _ _ c.answered-reply.result _ c.take.ensures c.answered-reply.ensures (λ r told.
     given_new m t c.args.change c.args.job c.in_ok-job.job c.args.grant r sound there (cc) n c.in_ok-job.ensures.after
-    (grant_within c.args.job c.args.grant c.in_ok-job.ensures.lawful new (omega (arith, n, sound.next_grant)))
+    (grant_within c.args.job c.args.grant c.in_ok-job.ensures.lawful new (omega (arith, n, grants_few m sound)))
     (λ q dial. told ∙ ap (λ (h : Handed). accepted_response (Replied (Given h))) (c.handed.ensures q dial)))
 
 pub returns-in_err-job : goal.returns-in_err-job

@@ -1,5 +1,6 @@
 use Rattle.std.proofs.Common.{◌≡◌, ◌≤◌, true, refl, ap, subst, sym, arith, ltb-false}
 use Rattle.std.proofs.lemmas.Bool.{and_parts}
+use Rattle.fax_core.proofs.KeepLemmas.{jobs_few}
 use Rattle.fax_core.specs.Ageing.{aged}
 use Rattle.fax_core.specs.Import.{bring}
 use Rattle.fax_core.specs.Job.{job_of}
@@ -45,7 +46,7 @@ returns-in-Err g c = decides (goes_on no_call (λ m k at none sound these.
     let here = machine_rule c.args.office.now.setup rule in
     let hours = have_moment c.args.office.now.setup rule.hours in
     let same = ap (λ r. rule_of r hours) c.in_ok-rule.ensures in
-    let first : 1 ≤ c.args.meta.now.next_job = omega (arith, next, sound.next_job) in (
+    let first : 1 ≤ c.args.meta.now.next_job = omega (arith, next, jobs_few m sound) in (
       refused_new (brought_in s (aged c.args.t m) c.args.t here) _ c.in-Err.refusal c.in_ok-rule.rule.now here hours m c.args.t c.refused.result refl
           (rw (c.in_ok-rule.ensures, these, c.max_jobs.ensures.number) at (c.in-Err.ensures hours)) same c.refused.ensures.recorded (c.refused.ensures.reply hours),
       λ read. c.refused.ensures.cause ((bring_refused c.args.import

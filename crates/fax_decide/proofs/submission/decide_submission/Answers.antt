@@ -1,4 +1,5 @@
 use Rattle.std.proofs.Common.{◌≡◌, ◌≤◌, true, refl, ap, subst, sym, arith, ltb-false}
+use Rattle.fax_core.proofs.KeepLemmas.{jobs_few}
 use Rattle.fax_core.specs.Ageing.{aged}
 use Rattle.fax_core.specs.Decisions.{submit}
 use Rattle.fax_core.specs.Job.{Job, job_of}
@@ -39,7 +40,7 @@ returns-in-Err c m sound these =
     let here = machine_rule c.args.office.now.setup rule in
     let hours = have_moment c.args.office.now.setup rule.hours in
     let same = ap (λ r. rule_of r hours) c.in_ok-rule.ensures in
-    let first : 1 ≤ c.args.meta.now.next_job = omega (arith, next, sound.next_job) in (
+    let first : 1 ≤ c.args.meta.now.next_job = omega (arith, next, jobs_few m sound) in (
       refused_new (submitted (aged c.args.t m) here) _ c.in-Err.refusal c.in_ok-rule.rule.now here hours m c.args.t c.refused.result refl
           (rw (c.in_ok-rule.ensures, these, c.max_jobs.ensures.number) at (c.in-Err.ensures hours)) same c.refused.ensures.recorded (c.refused.ensures.reply hours),
       λ read. c.refused.ensures.cause ((submit_refused c.args.order
