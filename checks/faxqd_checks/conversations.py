@@ -1,8 +1,8 @@
-"""The conversations of conversations/."""
+"""The transcripts of checks/conversations/."""
 from .runner import group
 from .shared import CONVERSATIONS, attempt, expect, expect_same, run, say, words_of
 
-check = group("conversations", "Sends each conversation of conversations/, and compares the replies byte for byte.", "computing")
+check = group("conversations", "Sends each transcript of checks/conversations/, and compares the replies byte for byte.", "computing")
 
 
 @check
@@ -10,15 +10,15 @@ def replies(folder):
     """The program answers each NAME.in by NAME.out, says NAME.err on standard error where there is such a file, and then ends
     with 1, else with 0."""
     names = [file.stem for file in sorted(CONVERSATIONS.glob("*.in"))]
-    expect(names, "there are no conversations")
+    expect(names, "there are no transcripts")
     for name in names:
         with attempt(name):
             agrees(name)
-    say(f"{len(names)} conversations")
+    say(f"{len(names)} transcripts")
 
 
 def agrees(name):
-    """The program answers this conversation as it should, with its setup or office.setup, and its controls if any."""
+    """The program answers this transcript as it should, with its setup or office.setup, and its controls if any."""
     errors = CONVERSATIONS / f"{name}.err"
     wanted = errors.read_bytes() if errors.exists() else b""
     with open(CONVERSATIONS / f"{name}.in", "rb") as messages:

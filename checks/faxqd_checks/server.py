@@ -229,7 +229,7 @@ def at_once(folder):
 def broken(folder):
     """What begins no message is answered as such, and the next connection is served."""
     names = [file.stem for file in sorted(CONVERSATIONS.glob("*.err"))]
-    expect(len(names) >= 10, "conversations/ lacks broken messages")
+    expect(len(names) >= 10, "checks/conversations/ lacks broken messages")
     with Server(folder / "queue.db") as server:
         job = 0
         for place, name in enumerate(names):

@@ -19,7 +19,7 @@ import threading
 import time
 
 TOP = pathlib.Path(__file__).resolve().parent.parent.parent
-CHECKS, CONVERSATIONS, EXAMPLES = TOP / "checks", TOP / "conversations", TOP / "examples"
+CHECKS, CONVERSATIONS, EXAMPLES = TOP / "checks", TOP / "checks/conversations", TOP / "examples"
 LIBRARIES = "clocks", "fail_device", "refuse_accept", "refuse_memory", "stop_disk", "unbuffered"
 PATIENCE = 20  # seconds until whatever is awaited counts as never coming
 LIMIT = 32768  # the kilobytes of data that the program may have, as docs/OPERATIONS.md says
