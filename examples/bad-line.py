@@ -5,15 +5,16 @@
 
 Both are HOST:PORT. It takes one request after the other from each connection, and does one of these with it:
 
-    passes           sends it on, and sends the reply back
-    is lost          doesn't send it on
-    is not answered  sends it on, and keeps the reply back
-    comes twice      sends it on twice, and sends the second reply back
-    comes late       sends it on after a while
-    comes again      as `passes`, and sends the request on once more after a while
+    passes             sends it on, and sends the reply back
+    is lost            doesn't send it on
+    its reply is lost  sends it on, and keeps the reply back
+    comes twice        sends it on twice, and sends the second reply back
+    comes late         sends it on after a while
+    comes again        as `passes`, and sends the request on once more after a while
 
-Each of six requests one behind the other has another of these fates, in an order that the seed decides. Where a request
-gets no reply its connection ends, at once or after a silence. Each fate is told on standard output.
+Each of six consecutive requests has another of these fates, in an order that the seed decides. If a request gets no
+reply, its connection ends, at once or after a silence. Standard output gets a line for each request, once it was dealt
+with: its place, client, number, method and path, its fate, and each reply of the server, also one that was kept back.
 """
 import argparse
 import random
@@ -22,7 +23,8 @@ import socket
 import threading
 import time
 
-FATES = "passes", "is lost", "is not answered", "comes twice", "comes late", "comes again"
+FATES = "passes", "is lost", "its reply is lost", "comes twice", "comes late", "comes again"
+TIMES = {"is lost": 0, "comes twice": 2}  # how often a request is sent on, if not once
 
 
 def address(text):
@@ -45,24 +47,39 @@ def take(peer, kept):
         kept += data
 
 
+def field(message, name):
+    """The value of a field of a message's head, or a dash."""
+    found = re.search(rb"(?i)\r\n" + name + rb": *([^\r\n]+)", message.partition(b"\r\n\r\n")[0])
+    return found[1] if found else b"-"
+
+
+def shown(reply):
+    """The status of a reply, and its body up to the end of the line."""
+    head, _, body = reply.partition(b"\r\n\r\n")
+    return b" ".join([*head.split(b" ")[1:2], *body.splitlines()[:1]]) or b"nothing"
+
+
 class Line:
     def __init__(self, words):
         self.words, self.chance, self.lock = words, random.Random(words.seed), threading.Lock()
         self.deck, self.count = [], 0
 
-    def fate(self, message):
-        """What becomes of the next message, and how much later a late one comes."""
+    def fate(self):
+        """The place of the next message, what becomes of it, and how much later a late one comes."""
         with self.lock:
             if not self.deck:
                 self.deck = self.chance.sample(FATES, len(FATES))
             self.count += 1
-            fate = self.deck.pop()
-            late = self.chance.uniform(0.1, self.words.late)
-            print(f"{self.count}: {message.split(b' HTTP', 1)[0].decode(errors='replace')} {fate}", flush=True)
-            return fate, late
+            return self.count, self.deck.pop(), self.chance.uniform(0.1, self.words.late)
+
+    def tell(self, count, message, fate, replies):
+        asked = b" ".join([field(message, b"fax-client"), field(message, b"fax-number"), message.split(b" HTTP", 1)[0]])
+        line = b"%d: %b %b: %b" % (count, asked, fate.encode(), b", ".join(map(shown, replies)) or b"-")
+        with self.lock:
+            print(line.decode(errors="replace"), flush=True)
 
     def ask(self, message):
-        """Sends a message on, and gives its reply, or nothing where there is none."""
+        """Sends a message on, and gives its reply, or nothing if there is none."""
         try:
             with socket.create_connection(self.words.server, 10) as server:
                 server.sendall(message)
@@ -71,23 +88,20 @@ class Line:
         except OSError:
             return b""
 
-    def ask_late(self, message, late):
+    def ask_again(self, count, message, late):
         time.sleep(late)
-        self.ask(message)
+        self.tell(count, message, "came again", [self.ask(message)])
 
     def carry(self, message):
         """Deals with a message as is its fate, and gives the reply that its sender gets, or nothing."""
-        fate, late = self.fate(message)
-        if fate == "is lost":
-            return b""
+        count, fate, late = self.fate()
         if fate == "comes late":
             time.sleep(late)
-        if fate == "comes twice":
-            self.ask(message)
-        reply = self.ask(message)
+        replies = [self.ask(message) for _ in range(TIMES.get(fate, 1))]
+        self.tell(count, message, fate, replies)
         if fate == "comes again":
-            threading.Thread(target=self.ask_late, args=(message, late), daemon=True).start()
-        return b"" if fate == "is not answered" else reply
+            threading.Thread(target=self.ask_again, args=(count, message, late), daemon=True).start()
+        return b"" if fate in ("is lost", "its reply is lost") else replies[-1]
 
     def serve(self, peer):
         with peer:

@@ -16,7 +16,7 @@ check = group("bad-line", "Has examples/client.sh and worker.sh send faxes over 
 PATIENCE = 40  # seconds until a fax that isn't sent counts as never sent
 FAX = "number:555-0111\ntotpages:3\njobtag:over a bad line\nmaxtries:100\nmaxdials:100\n"
 NO_JOB = b'{"no":8,"word":"no-job"}'
-FATES = "is lost", "is not answered", "comes twice", "comes late", "comes again"
+FATES = "is lost", "its reply is lost", "comes twice", "comes late", "comes again"
 # A modem whose calls all connect, and which notes what it does.
 MODEM = """\
 #!/bin/sh
@@ -134,7 +134,7 @@ def faxes(folder):
             expect(LOGGED.fullmatch(logged), f"the log has {logged!r}")
             expect(office.shows_lines(1, "tottries:1", "totdials:1"), f"the job is {office.shows(1)}")
             for fate in FATES:
-                expect(any(line.endswith(f"{fate}\n") for line in office.said), f"no message {fate}")
+                expect(any(f" {fate}: " in line for line in office.said), f"no message {fate}")
 
 
 @check
