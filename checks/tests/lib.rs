@@ -1,3 +1,4 @@
+//! Rattle, not Rust: checks/try-tests compiles and runs it without a proof, and rt doesn't read it.
 //! Tests of what no message to the program shows: calls of the store and of the queue that it doesn't make, and rows that
 //! it never has.
 //!

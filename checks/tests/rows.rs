@@ -1,3 +1,4 @@
+//! Rattle, not Rust: checks/try-tests compiles and runs it without a proof, and rt doesn't read it.
 //! Rows that no call of ours writes: what reads them refuses each as strange.
 use fax_tables::{
     Hold, Kept, Meta, StoreFault, calls_in, create_tables, dial_in, grant_in, held_job_in, job_in,

@@ -1,3 +1,4 @@
+//! Rattle, not Rust: checks/try-tests compiles and runs it without a proof, and rt doesn't read it.
 //! A run of arrivals. The program makes none: it hands each arrival to the queue by itself.
 use crate::example::{Exchange, ONE_FAX, arrival_of, is_reply};
 use crate::queues::queue_over;

@@ -1,3 +1,4 @@
+//! Rattle, not Rust: checks/try-tests compiles and runs it without a proof, and rt doesn't read it.
 //! Works that come to nothing, and one that adds a job without knowing the next number.
 use fax_job::{Dial, Job, JobFields, JobTag, Moment, Name, Phase, RequestNumber, Status, Wish};
 use fax_lines::read_lines;

@@ -1,3 +1,4 @@
+//! Rattle, not Rust: checks/try-tests compiles and runs it without a proof, and rt doesn't read it.
 //! The call that shows a job to the process that has the queue.
 use crate::example::Exchange;
 use crate::queues::{is_answered, queue_over};

@@ -1,3 +1,4 @@
+//! Rattle, not Rust: checks/try-tests compiles and runs it without a proof, and rt doesn't read it.
 //! The jobs that wait come one at a time as they come all at once, each with the calls to its number.
 use fax_job::Moment;
 use fax_store::Store;
