@@ -146,5 +146,7 @@ def readme(folder):
     block = re.search(r"(?:^    .*\n|^\n(?=    ))+", text.split("\n", 1)[1], re.M)[0]
     lines = [line[4:] for line in block.splitlines() if line.strip() not in ("", "..")]
     expect_same(lines[0], HEAD, "the head")
-    expect(len(in_table(lines[1:-1])[0]) >= 5, "there are too few requests")
+    expect(len(in_table(lines[1:-3])[0]) >= 5, "there are too few requests")
+    summed = "".join(f"{line}\n" for line in lines[-3:-1])
+    expect(re.fullmatch(SUM.replace("{}", r"\d+"), summed), f"it sums up {summed!r}")
     expect_same(lines[-1], WELL, "the last line")
