@@ -1,0 +1,6 @@
+pub mod RowsWorker
+pub mod RowsTraces
+mod QueueLemmas
+mod StandLemmas
+mod HandleLemmas
+pub mod TraceLemmas

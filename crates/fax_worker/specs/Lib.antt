@@ -1,0 +1,3 @@
+pub mod Worker
+pub mod Trace
+pub mod Laws

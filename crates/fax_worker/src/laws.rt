@@ -1,0 +1,11 @@
+//! Laws of a queue and its workers.
+//!
+//! Such a function changes nothing: its contract is the law. The statements are in `specs/Laws.antt`.
+
+ghost use Rattle.fax_worker.specs.Laws.{TracesAgree};
+
+/// Whenever nothing is unanswered, a worker that holds a grant and the queue agree about it: it is open, with the same
+/// call, and as many pages are confirmed as the worker has reported. The queue never refuses a worker's report.
+pub fn agrees()
+    ensures { TracesAgree }
+{}
