@@ -4,3 +4,4 @@ mod QueueLemmas
 mod StandLemmas
 mod HandleLemmas
 pub mod TraceLemmas
+mod BoundLemmas

@@ -19,6 +19,7 @@ use Rattle.fax_run.proofs.RowsRuns.{desk, start}
 use Rattle.fax_run.specs.Reading.{Post}
 use Rattle.fax_run.specs.Run.{end_after, under}
 use Rattle.fax_worker.specs.Trace.{Answered, Begins, Dies, Event, Handles, Has, IsTrace, MayHandle, ReportsIt, Transmits, World, answer_to, begun, fed, queue_at, told, window, worker_at}
+use Rattle.fax_worker.specs.Transmitted.{deaths, transmitted}
 use Rattle.fax_worker.specs.Worker as worker
 use Rattle.fax_worker.specs.Worker.{Action, AsksForWork, Held, Look, ReportsCall, ReportsOutcome, ReportsPage, Worker, with_request}
 
@@ -172,6 +173,10 @@ all_sent_is = goes_on 5 (OnGrant 1 (Page 3)) 1275 (Confirmed 3 false) (Transmits
 done_is : IsTrace world done
 done_is = goes_on 6 (OnGrant 1 (Outcome (report true Done 3 []))) 1280 (Stands 1 7) all_sent (ReportsOutcome Done []) tt (starts ((λ e. omega arith), refl)) tt refl all_sent_is
 
+-- each page is transmitted once
+each_once_row : transmitted 1 1 done ∷ transmitted 1 2 done ∷ transmitted 1 3 done ∷ [] ≡ 1 ∷ 1 ∷ 1 ∷ []
+each_once_row = refl
+
 -- ---- a lost reply
 
 -- the reply to `next` is lost, and the same request comes again
@@ -203,6 +208,10 @@ died_before_is =
     sends_page 0 (Dies ttyS0 ∷ Transmits ttyS0 1 1 ∷ called) refl refl (omega arith) refl
     (tt, sends_page 0 called refl refl (omega arith) refl called_is)
 
+-- so it was transmitted twice, and a driver died for it
+twice_for_a_death_row : transmitted 1 1 died_before ∷ deaths 1 1 died_before ∷ [] ≡ 2 ∷ 1 ∷ []
+twice_for_a_death_row = refl
+
 -- while it lives it doesn't transmit the page again
 twice_row : IsTrace world (Transmits ttyS0 1 1 ∷ Transmits ttyS0 1 1 ∷ called) → ⊥
 twice_row (may, is) = cc (may.reported)
@@ -213,6 +222,10 @@ died_after = Answered ttyS0 3 (OnGrant 1 (Page 1)) (Replied (Confirmed 1 false))
 
 died_after_row : worker_at world died_after ttyS0 ≡ worker_at world one_sent ttyS0
 died_after_row = refl
+
+-- so it was transmitted once, and this death doesn't count
+once_after_row : transmitted 1 1 died_after ∷ deaths 1 1 died_after ∷ [] ≡ 1 ∷ 0 ∷ []
+once_after_row = refl
 
 -- ---- a copy of `next` that was refused, and comes again later
 

@@ -57,7 +57,7 @@ calls_after first (f ∷ fs) at (valid, on, are) =
 -- ---- one worker
 
 -- what holds of both holds
-at_both : (P : Bool → Type 0) (b : Bool) → (b ≡ true → P true) → (b ≡ false → P false) → P b
+pub at_both : (P : Bool → Type 0) (b : Bool) → (b ≡ true → P true) → (b ≡ false → P false) → P b
 at_both P true on off = on refl
 at_both P false on off = off refl
 

@@ -1,5 +1,5 @@
 -- What is proved of a worker and its queue.
-use Rattle.std.specs.Prelude.{◌≡◌, ℕ, true, List, Some, None}
+use Rattle.std.specs.Prelude.{◌≤◌, ◌+◌, ◌≡◌, ℕ, true, List, Some, None}
 use Rattle.fax_core.specs.declared.ask.Ask.TheVariants.{OnGrant}
 use Rattle.fax_core.specs.declared.grants.Grant.{Grant}
 use Rattle.fax_core.specs.declared.report.Report.{Report}
@@ -8,6 +8,7 @@ use Rattle.fax_core.specs.Reply.{Reply}
 use Rattle.fax_core.specs.Run.{Answer, Replied}
 use Rattle.fax_core.specs.Sound.{IsOpen}
 use Rattle.fax_worker.specs.Trace.{Event, Has, IsFirst, IsTrace, World, queue_at, told, worker_at}
+use Rattle.fax_worker.specs.Transmitted.{deaths, transmitted}
 use Rattle.fax_worker.specs.Worker.{Held}
 
 -- the grant that a worker holds is its modem's open grant, and the queue has the same call and as many pages confirmed
@@ -36,3 +37,9 @@ ReportsAreAccepted first trace = (modem : List ℕ) (number grant : ℕ) (r : Re
 -- so it is in each trace
 abbrev pub TracesAgree : Type 0
 TracesAgree = (first : World) (trace : List Event) → IsFirst first → IsTrace first trace → WorkersAgree first trace × ReportsAreAccepted first trace
+
+-- ---- at the receiver
+
+-- Each page of each job is transmitted once at most, and once more for each time that its driver died between a transmission of that page and its begun report.
+abbrev pub OnceAtTheReceiver : Type 0
+OnceAtTheReceiver = (first : World) (trace : List Event) → IsFirst first → IsTrace first trace → (job page : ℕ) → transmitted job page trace ≤ 1 + deaths job page trace

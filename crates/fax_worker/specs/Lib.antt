@@ -1,3 +1,4 @@
 pub mod Worker
 pub mod Trace
+pub mod Transmitted
 pub mod Laws
