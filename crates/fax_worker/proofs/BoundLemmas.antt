@@ -70,15 +70,15 @@ module _ (first : World) (earlier : List Event) (at : IsFirst first) (is : IsTra
   abbrev m : Queue
   m = queue_at first earlier
 
-  good : Sound m
+  pub good : Sound m
   good = sound first earlier at is
 
   -- what a worker holds while nothing is unanswered
-  agrees_of : (modem : List ℕ) (h : Held) → first.has modem ≡ true → (worker_at first earlier modem).unanswered ≡ None → (worker_at first earlier modem).held ≡ Some h → Agrees m modem h
+  pub agrees_of : (modem : List ℕ) (h : Held) → first.has modem ≡ true → (worker_at first earlier modem).unanswered ≡ None → (worker_at first earlier modem).held ≡ Some h → Agrees m modem h
   agrees_of modem h works none holds = (traces_agree first earlier at is).0 modem h works none holds
 
   -- a report of a page waits
-  report_of : (modem : List ℕ) (n grant page : ℕ) → first.has modem ≡ true → (worker_at first earlier modem).unanswered ≡ Some (record { number = n; ask = OnGrant grant (Page page) })
+  pub report_of : (modem : List ℕ) (n grant page : ℕ) → first.has modem ≡ true → (worker_at first earlier modem).unanswered ≡ Some (record { number = n; ask = OnGrant grant (Page page) })
       → ReportWaits first modem m (fed first.start earlier) (told first.start earlier (name first modem)) n grant (Page page) (worker_at first earlier modem).held
   report_of modem n grant page works waits =
       let i = stands first modem works earlier at is in

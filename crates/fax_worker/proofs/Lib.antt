@@ -5,3 +5,5 @@ mod StandLemmas
 mod HandleLemmas
 pub mod TraceLemmas
 mod BoundLemmas
+mod JobLemmas
+mod OrderLemmas

@@ -3,15 +3,19 @@ use Rattle.std.proofs.Common.{◌≤◌, arith, inl, ap, sym, subst, ◌∙◌, 
 use Rattle.std.specs.Prelude.{◌≡◌, ◌+◌, refl, ℕ, true, false, List, [], ◌∷◌, map, codes, Option, Some, None}
 use Rattle.std.specs.Str.{bytes_eq}
 use Rattle.std.specs.Cmp.Lexicographic.{bytes_decides}
+use Rattle.fax_job.specs.declared.import.Import.{Import}
 use Rattle.fax_job.specs.declared.job.Call.TheVariants.{Connected}
 use Rattle.fax_job.specs.declared.job.Phase.{Phase}
 use Rattle.fax_job.specs.declared.job.Phase.TheVariants as phase
 use Rattle.fax_job.specs.declared.refusal.Refusal.TheVariants.{GivenUp, ModemBusy, ModemDown}
 use Rattle.fax_core.specs.Ask.{IsLawfulAsk}
 use Rattle.fax_core.specs.declared.ask.Ask.{Ask}
-use Rattle.fax_core.specs.declared.ask.Ask.TheVariants.{GiveUp, Mark, Next, OnGrant, Submission}
+use Rattle.fax_core.specs.declared.ask.Ask.TheVariants.{Bring, GiveUp, Mark, Next, OnGrant, Submission}
 use Rattle.fax_core.specs.declared.report.Ending.TheVariants.{Done}
 use Rattle.fax_core.specs.declared.report.Report.TheVariants.{Call, Outcome, Page}
+use Rattle.fax_core.specs.declared.grants.Grant.{Grant}
+use Rattle.fax_core.specs.Queue.{Queue, grant_numbered}
+use Rattle.fax_core.specs.Sound.{IsOpen}
 use Rattle.fax_core.specs.Reply.{Called, Confirmed, Floored, Given, HeldGrant, NoKeys, Reply, Stands}
 use Rattle.fax_core.specs.Run.{Answer, Replied, Denied}
 use Rattle.fax_core.proofs.RowWords.{◌at◌, hand, order, report, settings, ttyS0}
@@ -19,7 +23,7 @@ use Rattle.fax_run.proofs.RowsRuns.{desk, start}
 use Rattle.fax_run.specs.Reading.{Post}
 use Rattle.fax_run.specs.Run.{end_after, under}
 use Rattle.fax_worker.specs.Trace.{Answered, Begins, Dies, Event, Handles, Has, IsTrace, MayHandle, ReportsIt, Transmits, World, answer_to, begun, fed, queue_at, told, window, worker_at}
-use Rattle.fax_worker.specs.Transmitted.{deaths, transmitted}
+use Rattle.fax_worker.specs.Transmitted.{AreUndisturbed, deaths, pages_after, pages_of, sent_before, transmitted}
 use Rattle.fax_worker.specs.Worker as worker
 use Rattle.fax_worker.specs.Worker.{Action, AsksForWork, Held, Look, ReportsCall, ReportsOutcome, ReportsPage, Worker, with_request}
 
@@ -177,6 +181,46 @@ done_is = goes_on 6 (OnGrant 1 (Outcome (report true Done 3 []))) 1280 (Stands 1
 each_once_row : transmitted 1 1 done ∷ transmitted 1 2 done ∷ transmitted 1 3 done ∷ [] ≡ 1 ∷ 1 ∷ 1 ∷ []
 each_once_row = refl
 
+-- in order
+pages_row : pages_of 1 done ≡ 1 ∷ 2 ∷ 3 ∷ []
+pages_row = refl
+
+-- these are the pages that the law states
+pages_stated_row : pages_after (sent_before world (fed start done) 1) 3 ≡ 1 ∷ 2 ∷ 3 ∷ []
+pages_stated_row = refl
+
+-- the only grant is that of the worker's modem
+worker_reports : (m : Queue) (its : Grant) → grant_numbered 1 m ≡ Some its → bytes_eq its.modem ttyS0 ≡ true
+    → (k n page : ℕ) (g : Grant) → OnGrant 1 (Page k) ≡ OnGrant n (Page page) → IsOpen m n g → bytes_eq g.modem ttyS0 ≡ true
+worker_reports m its there works k n page g e is =
+    let number : n ≡ 1 = cc in
+    let found : grant_numbered 1 m ≡ Some g = subst (λ (i : ℕ). grant_numbered i m ≡ Some g) number is.0 in
+    let same : its ≡ g = cc (there, found) in
+    subst (λ (x : Grant). bytes_eq x.modem ttyS0 ≡ true) same works
+
+-- an exchange disturbs nothing where its request reports no page
+calm : (number : ℕ) (ask : Ask) (moment : ℕ) (answer : Answer) (earlier : List Event) → ((n page : ℕ) → ask ≡ OnGrant n (Page page) → ⊥) → ((i : Import) → ask ≡ Bring i → ⊥)
+    → AreUndisturbed world earlier → AreUndisturbed world (exchange number ask moment answer earlier)
+calm number ask moment answer earlier plain none rest =
+    (tt, (((λ n page g e is. absurd (plain n page e)), (λ i e. absurd (none i e))), ((λ n page e. absurd (plain n page e)), rest)))
+
+-- nor where it reports the page that was transmitted
+calm_page : (number k moment : ℕ) (answer : Answer) (earlier : List Event) (its : Grant) → grant_numbered 1 (queue_at world earlier) ≡ Some its → bytes_eq its.modem ttyS0 ≡ true
+    → AreUndisturbed world earlier → AreUndisturbed world (exchange number (OnGrant 1 (Page k)) moment answer (Transmits ttyS0 1 k ∷ earlier))
+calm_page number k moment answer earlier its there works rest =
+    (tt, ((worker_reports (queue_at world earlier) its there works k, (λ i e. cc e)), ((λ n page e. (record { job = 1; page = k }, refl)), (tt, rest))))
+
+-- so nothing disturbs this trace
+undisturbed_row : AreUndisturbed world done
+undisturbed_row =
+    calm 6 (OnGrant 1 (Outcome (report true Done 3 []))) 1280 (Replied (Stands 1 7)) all_sent (λ n page e. cc e) (λ i e. cc e)
+    (calm_page 5 3 1275 (Replied (Confirmed 3 false)) two_sent _ refl refl
+    (calm_page 4 2 1260 (Replied (Confirmed 2 false)) one_sent _ refl refl
+    (calm_page 3 1 1245 (Replied (Confirmed 1 false)) called _ refl refl
+    (calm 2 (OnGrant 1 (Call Connected)) 1015 (Replied (Called false)) (exchange 1 (Next ttyS0) 1000 (Replied fax) submitted) (λ n page e. cc e) (λ i e. cc e)
+    (calm 1 (Next ttyS0) 1000 (Replied fax) submitted (λ n page e. cc e) (λ i e. cc e)
+    (((λ n page g e is. cc e), (λ i e. cc e)), tt))))))
+
 -- ---- a lost reply
 
 -- the reply to `next` is lost, and the same request comes again
@@ -211,6 +255,10 @@ died_before_is =
 -- so it was transmitted twice, and a driver died for it
 twice_for_a_death_row : transmitted 1 1 died_before ∷ deaths 1 1 died_before ∷ [] ≡ 2 ∷ 1 ∷ []
 twice_for_a_death_row = refl
+
+-- a death between a transmission and its report does
+disturbed_row : AreUndisturbed world died_before → ⊥
+disturbed_row u = cc (u.1.0)
 
 -- while it lives it doesn't transmit the page again
 twice_row : IsTrace world (Transmits ttyS0 1 1 ∷ Transmits ttyS0 1 1 ∷ called) → ⊥

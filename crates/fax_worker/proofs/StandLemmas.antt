@@ -380,7 +380,7 @@ module _ (first : World) (modem : List ℕ) where
     m = queue_after first.start.queue fs
 
     -- under a new number nothing was accepted
-    new_unused : (n : ℕ) → w.last < n → is_accepted fs n ≡ false
+    pub new_unused : (n : ℕ) → w.last < n → is_accepted fs n ≡ false
     new_unused n new = elim (cases_Bool (is_accepted fs n)) [
       | inl on ↦
           let it = some_has fs name n on in

@@ -1,14 +1,16 @@
 -- What is proved of a worker and its queue.
-use Rattle.std.specs.Prelude.{◌≤◌, ◌+◌, ◌≡◌, ℕ, true, List, Some, None}
+use Rattle.std.specs.Prelude.{◌≤◌, ◌+◌, ◌≡◌, ◌⊎◌, ℕ, true, List, [], length, Some, None}
+use Rattle.fax_job.specs.declared.job.Phase.TheVariants as phase
 use Rattle.fax_core.specs.declared.ask.Ask.TheVariants.{OnGrant}
 use Rattle.fax_core.specs.declared.grants.Grant.{Grant}
 use Rattle.fax_core.specs.declared.report.Report.{Report}
+use Rattle.fax_core.specs.Job.{Job}
 use Rattle.fax_core.specs.Queue.{Queue}
 use Rattle.fax_core.specs.Reply.{Reply}
 use Rattle.fax_core.specs.Run.{Answer, Replied}
-use Rattle.fax_core.specs.Sound.{IsOpen}
-use Rattle.fax_worker.specs.Trace.{Event, Has, IsFirst, IsTrace, World, queue_at, told, worker_at}
-use Rattle.fax_worker.specs.Transmitted.{deaths, transmitted}
+use Rattle.fax_core.specs.Sound.{IsJob, IsOpen}
+use Rattle.fax_worker.specs.Trace.{Event, Has, IsFirst, IsTrace, World, fed, queue_at, told, worker_at}
+use Rattle.fax_worker.specs.Transmitted.{AreUndisturbed, deaths, pages_after, pages_of, sent_before, transmitted}
 use Rattle.fax_worker.specs.Worker.{Held}
 
 -- the grant that a worker holds is its modem's open grant, and the queue has the same call and as many pages confirmed
@@ -43,3 +45,19 @@ TracesAgree = (first : World) (trace : List Event) → IsFirst first → IsTrace
 -- Each page of each job is transmitted once at most, and once more for each time that its driver died between a transmission of that page and its begun report.
 abbrev pub OnceAtTheReceiver : Type 0
 OnceAtTheReceiver = (first : World) (trace : List Event) → IsFirst first → IsTrace first trace → (job page : ℕ) → transmitted job page trace ≤ 1 + deaths job page trace
+
+-- Of a job the pages after those sent before are transmitted, each once and in order, through the last confirmed one or the one after it; and through the last page where the job is done.
+pub record PagesGoInOrder (first : World) (trace : List Event) (job : ℕ) (j : Job) : Type 0 where
+  pub before : sent_before first (fed first.start trace) job ≤ length j.sent
+  pub pages : let before = sent_before first (fed first.start trace) job in
+      (pages_of job trace ≡ pages_after before (length j.sent)) ⊎ (pages_of job trace ≡ pages_after before (length j.sent + 1))
+  pub all : j.phase ≡ phase.Done → pages_of job trace ≡ pages_after (sent_before first (fed first.start trace) job) j.totpages
+
+-- a job that is done has no page left
+abbrev pub DoneJobsAreSent : Queue → Type 0
+DoneJobsAreSent m = (n : ℕ) (j : Job) → IsJob m n j → j.phase ≡ phase.Done → j.left ≡ []
+
+-- so it is in each trace that nothing disturbs
+abbrev pub InOrderAtTheReceiver : Type 0
+InOrderAtTheReceiver = (first : World) (trace : List Event) → IsFirst first → DoneJobsAreSent first.start.queue → IsTrace first trace → AreUndisturbed first trace
+    → (job : ℕ) (j : Job) → IsJob (queue_at first trace) job j → PagesGoInOrder first trace job j
