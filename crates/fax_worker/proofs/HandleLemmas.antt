@@ -18,9 +18,9 @@ use Rattle.fax_core.specs.Run.{Answer, answer_of, left_by}
 use Rattle.fax_core.specs.Sound.{IsOpen, Sound}
 use Rattle.fax_run.specs.Run.{Fed, floors_after, is_of, is_taken, queue_after, step_of}
 use Rattle.fax_worker.proofs.QueueLemmas.{accepts, grant_stays}
-use Rattle.fax_worker.proofs.StandLemmas.{HoldsSo, Inv, IsPlain, IsSent, IsTaken, NextLeads, Stands, Stays, Waits, agrees_still, answer_above, answer_new, any_later, any_off, any_on, floors_below, floors_other, floors_up, is_accepted, name, next_still, plain_next, plain_report, repeats_kept, step_leads, taken_from}
+use Rattle.fax_worker.proofs.StandLemmas.{HoldsSo, Inv, IsPlain, IsSent, IsTaken, NextLeads, Stands, Stays, Waits, agrees_still, answer_above, answer_new, any_later, any_off, any_on, floors_below, floors_other, floors_up, is_accepted, kept_answer, name, new_plain, next_still, plain_next, plain_report, repeats_kept, step_leads, taken_from}
 use Rattle.fax_worker.specs.Laws.{Agrees}
-use Rattle.fax_worker.specs.Trace.{CallsComeFirst, Has, PageOf, Told, World, answer_to, kept_answer, new_answer}
+use Rattle.fax_worker.specs.Trace.{CallsComeFirst, Has, PageOf, Told, World, answer_to, new_answer}
 use Rattle.fax_worker.specs.Worker.{Held, Pending, Worker}
 
 -- texts that differ
@@ -46,7 +46,7 @@ module _ (first : World) (modem : List ℕ) where
   -- what holds of an answer holds of each that was sent, whether before or now
   abbrev SentBefore : List Fed → List Told → List Fed → List Told → ℕ → Type 0
   SentBefore fs ts gs us n = (ask : Ask) (answer : Answer) → (Has (record { number = n; ask = ask; answer = answer }) us → Has (record { number = n; ask = ask; answer = answer }) ts)
-      × (kept_answer first.start.queue gs c n ≡ Some answer → kept_answer first.start.queue fs c n ≡ Some answer)
+      × (kept_answer first.start gs c n ≡ Some answer → kept_answer first.start fs c n ≡ Some answer)
 
   sent_before : (fs : List Fed) (ts : List Told) (gs : List Fed) (us : List Told) (n : ℕ) (ask : Ask) (answer : Answer) → SentBefore fs ts gs us n → IsSent first modem gs us n ask answer → IsSent first modem fs ts n ask answer
   sent_before fs ts gs us n ask answer before (inl has) = inl ((before ask answer).0 has)
@@ -226,7 +226,7 @@ module _ (first : World) (modem : List ℕ) where
         sent_is : IsPlain ask → (a : Ask) (x : Answer) → IsSent first modem (f ∷ fs) us k a x → (x ≡ answer_of (step_of m f)) ⊎ Has (record { number = k; ask = a; answer = x }) ts
         sent_is plain a x (inl (inl same)) = inl (sym (ap (λ (t : Told). t.answer) same) ∙ answer_is plain)
         sent_is plain a x (inl (inr old)) = inr old
-        sent_is plain a x (inr kept) = inl (let both : Some (answer_of (step_of m f)) ≡ Some x = (rw here at kept) in cc)
+        sent_is plain a x (inr kept) = inl (let both : Some (new_answer first.start fs f) ≡ Some x = (rw here at kept) in let same : new_answer first.start fs f ≡ x = cc in sym same ∙ new_plain first.start fs f plain)
 
         -- the unanswered request is taken
         taken_this : (a : Ask) (held : Option Held) → ask ≡ a → Waits first modem m fs ts k a held → Waits first modem next (f ∷ fs) us k a held
@@ -283,10 +283,10 @@ module _ (first : World) (modem : List ℕ) where
               is_below a b low = grind (arith, nat_tests)
 
           -- one that was accepted is answered as it was
-          repeat_is : is_accepted first modem fs k ≡ true → kept_answer first.start.queue fs c k ≡ Some answer
+          repeat_is : is_accepted first modem fs k ≡ true → kept_answer first.start fs c k ≡ Some answer
           repeat_is on =
-              subst (λ (z : List ℕ). kept_answer first.start.queue fs z k ≡ Some answer) its
-              (repeats_kept first.start.queue fs f.post (new_answer first.start fs f) (subst (λ (z : List ℕ). list_any (is_of z k) fs ≡ true) (sym its) on) same
+              subst (λ (z : List ℕ). kept_answer first.start fs z k ≡ Some answer) its
+              (repeats_kept first.start fs f.post (new_answer first.start fs f) (subst (λ (z : List ℕ). list_any (is_of z k) fs ≡ true) (sym its) on) same
               ∙ ap (λ (x : Answer). Some x) (sym (answer_above first.start fs f above)))
             where
               same : (g : Fed) → Has g fs → is_of f.post.client k g ≡ true → g.post.said ≡ f.post.said

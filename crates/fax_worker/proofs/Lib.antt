@@ -7,3 +7,4 @@ pub mod TraceLemmas
 mod BoundLemmas
 mod JobLemmas
 mod OrderLemmas
+mod JoinLemmas

@@ -127,19 +127,27 @@ may_ask earlier number ask moment valid none = record {
   alone = λ n g r e is_open works. absurd (none n r e);
 }
 
+-- the queue is sound, and the worker new
+first_row : IsFirst world
+first_row = record {
+  sound = empty_sound;
+  calls = λ n g is none. cc is;
+  workers = λ modem works. record { answered = refl; holds = refl; unused = λ n more. refl; floor = omega arith };
+}
+
 -- an exchange goes on from a trace, where the worker may begin the request and this is the queue's answer
-goes_on : (number : ℕ) (ask : Ask) (moment : ℕ) (reply : Reply) (earlier : List Event) (action : Action) → IsLawfulAsk ask
+goes_on : (number : ℕ) (ask : Ask) (moment : ℕ) (answer : Answer) (earlier : List Event) (action : Action) → IsLawfulAsk ask
     → worker.Begins ttyS0 (worker_at world earlier ttyS0) action number ask (with_request number ask (worker_at world earlier ttyS0)) → ReportsIt (window earlier ttyS0) ask
-    → answer_to start (fed start earlier) (under settings (post number ask moment)) ≡ Replied reply → IsTrace world earlier
-    → IsTrace world (exchange number ask moment (Replied reply) earlier)
-goes_on number ask moment reply earlier action valid begins reports answer is = (
+    → answer_to start (fed start earlier) (under settings (post number ask moment)) ≡ answer → Shows (queue_at world (sends number ask moment ∷ earlier)) answer nothing_seen → IsTrace world earlier
+    → IsTrace world (exchange number ask moment answer earlier)
+goes_on number ask moment answer earlier action valid begins reports is shows trace = (
   record {
     works = refl;
     answered = record { unanswered = refl; becomes = refl };
-    sent = inl (ap (λ (a : Answer). record { number = number; ask = ask; answer = a }) answer);
-    looked = tt;
+    sent = inl (ap (λ (a : Answer). record { number = number; ask = ask; answer = a }) is);
+    looked = shows;
   },
-  (may_send (Begins ttyS0 number ask ∷ earlier) number ask moment valid (inl refl), (record { works = refl; action = action; begins = begins; reports = reports }, is)),
+  (may_send (Begins ttyS0 number ask ∷ earlier) number ask moment valid (inl refl), (record { works = refl; action = action; begins = begins; reports = reports }, trace)),
 )
 
 -- what begins under the next number
@@ -153,8 +161,8 @@ submitted_is = (may_ask [] 1 (Submission (order (codes "5550111") 3)) 1000 (reco
 
 called_is : IsTrace world called
 called_is =
-    goes_on 2 (OnGrant 1 (Call Connected)) 1015 (Called false) (exchange 1 (Next ttyS0) 1000 (Replied fax) submitted) (ReportsCall Connected) tt (starts (refl, refl)) tt refl
-    (goes_on 1 (Next ttyS0) 1000 fax submitted AsksForWork tt (starts refl) tt refl submitted_is)
+    goes_on 2 (OnGrant 1 (Call Connected)) 1015 (Replied (Called false)) (exchange 1 (Next ttyS0) 1000 (Replied fax) submitted) (ReportsCall Connected) tt (starts (refl, refl)) tt refl
+    (goes_on 1 (Next ttyS0) 1000 (Replied fax) submitted AsksForWork tt (starts refl) tt refl submitted_is)
 
 -- a page of the fax is transmitted
 sends_page : (pages : ℕ) (earlier : List Event) → (worker_at world earlier ttyS0).unanswered ≡ None → (worker_at world earlier ttyS0).held ≡ Some (holds pages)
@@ -163,19 +171,19 @@ sends_page pages earlier none held left before is =
     (record { works = refl; answered = none; held = holds pages; holds = held; connected = refl; of_job = refl; next = omega arith; left = left; reported = before }, is)
 
 one_sent_is : IsTrace world one_sent
-one_sent_is = goes_on 3 (OnGrant 1 (Page 1)) 1245 (Confirmed 1 false) (Transmits ttyS0 1 1 ∷ called) ReportsPage tt (starts (refl, (omega arith), refl)) (1, refl) refl
+one_sent_is = goes_on 3 (OnGrant 1 (Page 1)) 1245 (Replied (Confirmed 1 false)) (Transmits ttyS0 1 1 ∷ called) ReportsPage tt (starts (refl, (omega arith), refl)) (1, refl) refl
     (sends_page 0 called refl refl (omega arith) refl called_is)
 
 two_sent_is : IsTrace world two_sent
-two_sent_is = goes_on 4 (OnGrant 1 (Page 2)) 1260 (Confirmed 2 false) (Transmits ttyS0 1 2 ∷ one_sent) ReportsPage tt (starts (refl, (omega arith), refl)) (1, refl) refl
+two_sent_is = goes_on 4 (OnGrant 1 (Page 2)) 1260 (Replied (Confirmed 2 false)) (Transmits ttyS0 1 2 ∷ one_sent) ReportsPage tt (starts (refl, (omega arith), refl)) (1, refl) refl
     (sends_page 1 one_sent refl refl (omega arith) refl one_sent_is)
 
 all_sent_is : IsTrace world all_sent
-all_sent_is = goes_on 5 (OnGrant 1 (Page 3)) 1275 (Confirmed 3 false) (Transmits ttyS0 1 3 ∷ two_sent) ReportsPage tt (starts (refl, (omega arith), refl)) (1, refl) refl
+all_sent_is = goes_on 5 (OnGrant 1 (Page 3)) 1275 (Replied (Confirmed 3 false)) (Transmits ttyS0 1 3 ∷ two_sent) ReportsPage tt (starts (refl, (omega arith), refl)) (1, refl) refl
     (sends_page 2 two_sent refl refl (omega arith) refl two_sent_is)
 
 done_is : IsTrace world done
-done_is = goes_on 6 (OnGrant 1 (Outcome (report true Done 3 []))) 1280 (Stands 1 7) all_sent (ReportsOutcome Done []) tt (starts ((λ e. omega arith), refl)) tt refl all_sent_is
+done_is = goes_on 6 (OnGrant 1 (Outcome (report true Done 3 []))) 1280 (Replied (Stands 1 7)) all_sent (ReportsOutcome Done []) tt (starts ((λ e. omega arith), refl)) tt refl all_sent_is
 
 -- each page is transmitted once
 each_once_row : transmitted 1 1 done ∷ transmitted 1 2 done ∷ transmitted 1 3 done ∷ [] ≡ 1 ∷ 1 ∷ 1 ∷ []

@@ -26,7 +26,7 @@ use Rattle.fax_run.specs.Run.{Fed, Start, floors_after, floors_by, is_new, is_of
 use Rattle.fax_run.specs.Verdict.{is_too_high, raised, raised_ask}
 use Rattle.fax_worker.proofs.QueueLemmas.{FitsHeld, step_given}
 use Rattle.fax_worker.specs.Laws.{Agrees}
-use Rattle.fax_worker.specs.Trace.{CallsComeFirst, Has, PageOf, Shows, Told, World, answer_to, kept_answer, new_answer, repeated}
+use Rattle.fax_worker.specs.Trace.{CallsComeFirst, Has, PageOf, Shows, Told, World, answer_to, new_answer, repeated}
 use Rattle.fax_worker.specs.Worker as worker
 use Rattle.fax_worker.specs.Worker.{Action, Held, IsRequest, Look, Pending, Worker, after_report, held_after, held_of, next_page, with_answer, with_request}
 
@@ -140,33 +140,38 @@ plain_next modem = record { raised = λ floor. refl; low = λ n. refl }
 pub plain_report : (grant : ℕ) (x : Report) → IsPlain (OnGrant grant x)
 plain_report grant x = record { raised = λ floor. refl; low = λ n. refl }
 
+-- the answer to the accepted request of this client under this number
+abbrev pub kept_answer : Start → List Fed → List ℕ → ℕ → Option Answer
+kept_answer start [] client number = None
+kept_answer start (f ∷ earlier) client number = cond (is_of client number f) (Some (new_answer start earlier f)) (kept_answer start earlier client number)
+
 -- where none has the number, none is repeated
-repeats_none : (m : Queue) (fs : List Fed) (p : Post) (new : Answer) → list_any (is_of p.client p.number) fs ≡ false → repeated m fs p new ≡ new
-repeats_none m [] p new none = refl
-repeats_none m (f ∷ fs) p new none = elim (cases_Bool (is_of p.client p.number f)) [
+pub repeats_none : (start : Start) (fs : List Fed) (p : Post) (new : Answer) → list_any (is_of p.client p.number) fs ≡ false → repeated start fs p new ≡ new
+repeats_none start [] p new none = refl
+repeats_none start (f ∷ fs) p new none = elim (cases_Bool (is_of p.client p.number f)) [
   | inl on ↦ absurd (true≢false (sym (any_on (is_of p.client p.number) f fs on) ∙ none))
-  | inr off ↦ rw off (repeats_none m fs p new (sym (any_off (is_of p.client p.number) f fs off) ∙ none))
+  | inr off ↦ rw off (repeats_none start fs p new (sym (any_off (is_of p.client p.number) f fs off) ∙ none))
 ]
 
 -- where none has it, none is kept
-keeps_none : (m : Queue) (fs : List Fed) (c : List ℕ) (n : ℕ) → list_any (is_of c n) fs ≡ false → kept_answer m fs c n ≡ None
-keeps_none m [] c n none = refl
-keeps_none m (f ∷ fs) c n none = elim (cases_Bool (is_of c n f)) [
+keeps_none : (start : Start) (fs : List Fed) (c : List ℕ) (n : ℕ) → list_any (is_of c n) fs ≡ false → kept_answer start fs c n ≡ None
+keeps_none start [] c n none = refl
+keeps_none start (f ∷ fs) c n none = elim (cases_Bool (is_of c n f)) [
   | inl on ↦ absurd (true≢false (sym (any_on (is_of c n) f fs on) ∙ none))
-  | inr off ↦ rw off (keeps_none m fs c n (sym (any_off (is_of c n) f fs off) ∙ none))
+  | inr off ↦ rw off (keeps_none start fs c n (sym (any_off (is_of c n) f fs off) ∙ none))
 ]
 
 -- one that has it is repeated as kept, where it says the same
-pub repeats_kept : (m : Queue) (fs : List Fed) (p : Post) (new : Answer) → list_any (is_of p.client p.number) fs ≡ true
-    → ((f : Fed) → Has f fs → is_of p.client p.number f ≡ true → f.post.said ≡ p.said) → kept_answer m fs p.client p.number ≡ Some (repeated m fs p new)
-repeats_kept m [] p new any same = absurd cc
-repeats_kept m (f ∷ fs) p new any same = elim (cases_Bool (is_of p.client p.number f)) [
+pub repeats_kept : (start : Start) (fs : List Fed) (p : Post) (new : Answer) → list_any (is_of p.client p.number) fs ≡ true
+    → ((f : Fed) → Has f fs → is_of p.client p.number f ≡ true → f.post.said ≡ p.said) → kept_answer start fs p.client p.number ≡ Some (repeated start fs p new)
+repeats_kept start [] p new any same = absurd cc
+repeats_kept start (f ∷ fs) p new any same = elim (cases_Bool (is_of p.client p.number f)) [
   | inl on ↦ rw (on, (bytes_decides f.post.said p.said).1 (same f (inl refl) on)) refl
-  | inr off ↦ rw off (repeats_kept m fs p new (sym (any_off (is_of p.client p.number) f fs off) ∙ any) (λ g has. same g (inr has)))
+  | inr off ↦ rw off (repeats_kept start fs p new (sym (any_off (is_of p.client p.number) f fs off) ∙ any) (λ g has. same g (inr has)))
 ]
 
 -- a plain request is decided as it stands
-new_plain : (start : Start) (fs : List Fed) (f : Fed) → IsPlain f.post.request.ask → new_answer start fs f ≡ answer_of (step_of (queue_after start.queue fs) f)
+pub new_plain : (start : Start) (fs : List Fed) (f : Fed) → IsPlain f.post.request.ask → new_answer start fs f ≡ answer_of (step_of (queue_after start.queue fs) f)
 new_plain start fs f plain =
     let p = f.post in
     let decided : Answer = answer_of (step_of (queue_after start.queue fs) (under f.settings (Rattle.fax_run.specs.Verdict.raised (floors_after start fs p.client) p))) in
@@ -175,13 +180,13 @@ new_plain start fs f plain =
 
 -- above the floor a request is repeated or new
 pub answer_above : (start : Start) (fs : List Fed) (f : Fed) → nat_lt (floors_after start fs f.post.client) f.post.number ≡ true
-    → answer_to start fs f ≡ repeated start.queue fs f.post (new_answer start fs f)
-answer_above start fs f above = ap (λ b. cond b (repeated start.queue fs f.post (new_answer start fs f)) (Denied GivenUp NoKeys)) above
+    → answer_to start fs f ≡ repeated start fs f.post (new_answer start fs f)
+answer_above start fs f above = ap (λ b. cond b (repeated start fs f.post (new_answer start fs f)) (Denied GivenUp NoKeys)) above
 
 -- a new one has the answer of its step
 pub answer_new : (start : Start) (fs : List Fed) (f : Fed) → nat_lt (floors_after start fs f.post.client) f.post.number ≡ true → IsPlain f.post.request.ask
     → list_any (is_of f.post.client f.post.number) fs ≡ false → answer_to start fs f ≡ answer_of (step_of (queue_after start.queue fs) f)
-answer_new start fs f above plain unused = answer_above start fs f above ∙ repeats_none start.queue fs f.post (new_answer start fs f) unused ∙ new_plain start fs f plain
+answer_new start fs f above plain unused = answer_above start fs f above ∙ repeats_none start fs f.post (new_answer start fs f) unused ∙ new_plain start fs f plain
 
 -- ---- agreement stays
 
@@ -281,7 +286,7 @@ module _ (first : World) (modem : List ℕ) where
 
   -- an answer that was sent to a request, or would be
   abbrev pub IsSent : List Fed → List Told → ℕ → Ask → Answer → Type 0
-  IsSent fs ts n ask answer = Has (record { number = n; ask = ask; answer = answer }) ts ⊎ (kept_answer first.start.queue fs name n ≡ Some answer)
+  IsSent fs ts n ask answer = Has (record { number = n; ask = ask; answer = answer }) ts ⊎ (kept_answer first.start fs name n ≡ Some answer)
 
   -- while `next` is unanswered nothing is held, and each answer leads to agreement
   pub record NextWaits (m : Queue) (fs : List Fed) (ts : List Told) (n : ℕ) (asked : List ℕ) (held : Option Held) : Type 0 where
@@ -357,10 +362,10 @@ module _ (first : World) (modem : List ℕ) where
   -- ---- the worker's events
 
   -- what is kept is of one that is accepted
-  kept_any : (m : Queue) (fs : List Fed) (c : List ℕ) (n : ℕ) (a : Answer) → kept_answer m fs c n ≡ Some a → list_any (is_of c n) fs ≡ true
-  kept_any m fs c n a e = elim (cases_Bool (list_any (is_of c n) fs)) [
+  kept_any : (start : Start) (fs : List Fed) (c : List ℕ) (n : ℕ) (a : Answer) → kept_answer start fs c n ≡ Some a → list_any (is_of c n) fs ≡ true
+  kept_any start fs c n a e = elim (cases_Bool (list_any (is_of c n) fs)) [
     | inl on ↦ on
-    | inr off ↦ absurd (let none = keeps_none m fs c n off in cc)
+    | inr off ↦ absurd (let none = keeps_none start fs c n off in cc)
   ]
 
   -- some request is accepted under a number that is accepted
@@ -396,7 +401,7 @@ module _ (first : World) (modem : List ℕ) where
     new_unsent : (n : ℕ) (ask : Ask) (answer : Answer) → w.last < n → IsSent fs ts n ask answer → ⊥
     new_unsent n ask answer new (inl has) = new_silent n ask answer new has
     new_unsent n ask answer new (inr kept) =
-        let on = kept_any first.start.queue fs name n answer kept in
+        let on = kept_any first.start fs name n answer kept in
         let off = new_unused n new in
         true≢false (sym on ∙ off)
 

@@ -3,10 +3,13 @@ use Rattle.std.proofs.Common.{◌≡◌, ◌≢◌, inl, ℕ, Bool, true, false,
 use Rattle.std.specs.Str.{bytes_eq}
 use Rattle.std.specs.Cmp.Lexicographic.{bytes_decides}
 use Rattle.std.proofs.lemmas.Bool.{true≢false}
+use Rattle.fax_core.specs.declared.ask.Ask.{Ask}
+use Rattle.fax_core.specs.declared.ask.Ask.TheVariants.{OnGrant}
+use Rattle.fax_core.specs.declared.report.Report.{Report}
 use Rattle.fax_core.specs.Clock.{decided_at}
 use Rattle.fax_core.specs.Queue.{Queue}
 use Rattle.fax_core.specs.Reply.{Reply, Refused, Step, Taken}
-use Rattle.fax_core.specs.Run.{left_by}
+use Rattle.fax_core.specs.Run.{Answer, Replied, left_by}
 use Rattle.fax_core.specs.Settings.{Settings}
 use Rattle.fax_core.specs.Sound.{Sound}
 use Rattle.fax_run.specs.Laws.{AreAccepted, AreTaken}
@@ -17,7 +20,7 @@ use Rattle.fax_run.proofs.OnceLemmas.{sound_after}
 use Rattle.fax_worker.proofs.HandleLemmas.{other_taken, own_taken, own_untaken, stays_by}
 use Rattle.fax_worker.proofs.QueueLemmas.{calls_first}
 use Rattle.fax_worker.proofs.StandLemmas.{Inv, ReportWaits, Stands, answers, begins, dies, name, taken_parts, transmits}
-use Rattle.fax_worker.specs.Laws.{TracesAgree}
+use Rattle.fax_worker.specs.Laws.{NumbersAreUsedOnce, ReportsWillBeAccepted, TracesAgree}
 use Rattle.fax_worker.specs.Trace.{Answered, Begins, CallsComeFirst, Dies, Event, Handles, Has, IsFirst, IsTrace, MayHandle, Told, Transmits, World, answer_to, begun, fed, queue_at, told, window, worker_at}
 use Rattle.fax_worker.specs.Worker as worker
 use Rattle.fax_worker.specs.Worker.{Held, Pending, Worker, with_answer, with_request}
@@ -194,3 +197,60 @@ traces_agree first trace at is = (
       subst (λ (o : Option Pending). Stands first modem (queue_at first trace) (fed first.start trace) (told first.start trace (name first modem)) o (worker_at first trace modem).held) waits i.stands in
       it.accepted answer (inl sent),
 )
+
+-- ---- a report that reaches the queue
+
+module _ (first : World) (trace : List Event) (at : IsFirst first) (is : IsTrace first trace) (modem : List ℕ) (works : first.has modem ≡ true) (s : Settings) (p : Post) where
+  abbrev fs : List Fed
+  fs = fed first.start trace
+
+  abbrev f : Fed
+  f = under s p
+
+  abbrev w : Worker
+  w = worker_at first trace modem
+
+  abbrev sent : Answer
+  sent = answer_to first.start fs f
+
+  -- what waits after it was handled has accepted answers
+  accepted_by : (gs : List Fed) (n grant : ℕ) (r : Report) → w.unanswered ≡ Some (record { number = n; ask = OnGrant grant r }) → p.number ≡ n → p.request.ask ≡ OnGrant grant r
+      → Inv first modem w gs (begun trace modem) (record { number = p.number; ask = p.request.ask; answer = sent } ∷ told first.start trace (name first modem)) (window trace modem)
+      → (reply : Reply) × (sent ≡ Replied reply)
+  accepted_by gs n grant r waits number asks i =
+      let us = told first.start trace (name first modem) in
+      let now : Told = record { number = p.number; ask = p.request.ask; answer = sent } in
+      let it : ReportWaits first modem (queue_after first.start.queue gs) gs (now ∷ us) n grant r w.held =
+      subst (λ (o : Option Pending). Stands first modem (queue_after first.start.queue gs) gs (now ∷ us) o w.held) waits i.stands in
+      let same : now ≡ record { number = n; ask = OnGrant grant r; answer = sent } =
+      ap (λ (x : ℕ). record { number = x; ask = p.request.ask; answer = sent }) number ∙ ap (λ (x : Ask). record { number = n; ask = x; answer = sent }) asks in
+      it.accepted sent (inl (inl same))
+
+pub reports_will_be_accepted : ReportsWillBeAccepted
+reports_will_be_accepted first trace at is modem request grant r s p works waits asks sent =
+    let i = stands first modem works trace at is in
+    let fs = fed first.start trace in
+    let f = under s p in
+    let w = worker_at first trace modem in
+    let bs = begun trace modem in
+    let ts = told first.start trace (name first modem) in
+    let win = window trace modem in
+    let good = sound first trace at is in
+    let calls = calls_after first fs at (taken_all first trace is) in
+    let known : w.unanswered ≡ Some (record { number = request.number; ask = OnGrant grant r }) = waits ∙ ap (λ (a : Ask). Some (record { number = request.number; ask = a })) asks in
+    let same : request ≡ record { number = p.number; ask = p.request.ask } =
+    ap (λ (n : ℕ). record { number = n; ask = request.ask }) (sym sent.number) ∙ ap (λ (a : Ask). record { number = p.number; ask = a }) (sym sent.ask) in
+    let has : Has (record { number = p.number; ask = p.request.ask }) bs = subst (λ (q : Pending). Has q bs) same (i.waits request waits).0 in
+    let says = sent.said ∙ ap first.says (sym sent.ask) in
+    at_both (λ b. (reply : Reply) × (answer_to first.start fs f ≡ Replied reply)) (is_taken first.start fs f)
+    (λ on.
+    accepted_by first trace at is modem works s p (f ∷ fs) request.number grant r known sent.number (sent.ask ∙ asks)
+    (own_taken first modem w fs bs ts win i f sent.client has says (taken_parts first.start fs f on) good calls))
+    (λ off.
+    accepted_by first trace at is modem works s p fs request.number grant r known sent.number (sent.ask ∙ asks)
+    (own_untaken first modem w fs bs ts win i f sent.client has says off good calls))
+
+pub numbers_are_used_once : NumbersAreUsedOnce
+numbers_are_used_once first trace at is modem p q works a b number =
+    let i = stands first modem works trace at is in
+    ap (λ (n : ℕ). record { number = n; ask = p.ask }) number ∙ ap (λ (x : Ask). record { number = q.number; ask = x }) (i.once p q a b number)

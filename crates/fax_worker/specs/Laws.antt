@@ -9,9 +9,12 @@ use Rattle.fax_core.specs.Queue.{Queue}
 use Rattle.fax_core.specs.Reply.{Reply}
 use Rattle.fax_core.specs.Run.{Answer, Replied}
 use Rattle.fax_core.specs.Sound.{IsJob, IsOpen}
-use Rattle.fax_worker.specs.Trace.{Event, Has, IsFirst, IsTrace, World, fed, queue_at, told, worker_at}
+use Rattle.fax_core.specs.Settings.{Settings}
+use Rattle.fax_run.specs.Reading.{Post}
+use Rattle.fax_run.specs.Run.{under}
+use Rattle.fax_worker.specs.Trace.{Event, Has, IsFirst, IsTrace, World, answer_to, begun, fed, queue_at, told, worker_at}
 use Rattle.fax_worker.specs.Transmitted.{AreUndisturbed, deaths, pages_after, pages_of, sent_before, transmitted}
-use Rattle.fax_worker.specs.Worker.{Held}
+use Rattle.fax_worker.specs.Worker.{Held, Pending}
 
 -- the grant that a worker holds is its modem's open grant, and the queue has the same call and as many pages confirmed
 pub record Agrees (m : Queue) (modem : List ℕ) (h : Held) : Type 0 where
@@ -33,12 +36,30 @@ WorkersAgree first trace = (modem : List ℕ) (h : Held) → first.has modem ≡
 abbrev pub ReportsAreAccepted : World → List Event → Type 0
 ReportsAreAccepted first trace = (modem : List ℕ) (number grant : ℕ) (r : Report) (answer : Answer) → first.has modem ≡ true
     → (worker_at first trace modem).unanswered ≡ Some (record { number = number; ask = OnGrant grant r })
-    → Has (record { number = number; ask = OnGrant grant r; answer = answer }) (told first.start trace (first.worker modem).client)
-    → (reply : Reply) × (answer ≡ Replied reply)
+    → Has (record { number = number; ask = OnGrant grant r; answer = answer }) (told first.start trace (first.worker modem).client) → (reply : Reply) × (answer ≡ Replied reply)
 
 -- so it is in each trace
 abbrev pub TracesAgree : Type 0
 TracesAgree = (first : World) (trace : List Event) → IsFirst first → IsTrace first trace → WorkersAgree first trace × ReportsAreAccepted first trace
+
+-- the post is the worker's request, as the worker sends it
+pub record IsSentBy (first : World) (modem : List ℕ) (request : Pending) (p : Post) : Type 0 where
+  pub client : p.client ≡ (first.worker modem).client
+  pub number : p.number ≡ request.number
+  pub ask : p.request.ask ≡ request.ask
+  pub said : p.said ≡ first.says request.ask
+
+-- whenever an unanswered report reaches the queue, at any moment and under any settings, it is accepted
+abbrev pub ReportsWillBeAccepted : Type 0
+ReportsWillBeAccepted = (first : World) (trace : List Event) → IsFirst first → IsTrace first trace
+    → (modem : List ℕ) (request : Pending) (grant : ℕ) (r : Report) (s : Settings) (p : Post) → first.has modem ≡ true
+    → (worker_at first trace modem).unanswered ≡ Some request → request.ask ≡ OnGrant grant r → IsSentBy first modem request p
+    → (reply : Reply) × (answer_to first.start (fed first.start trace) (under s p) ≡ Replied reply)
+
+-- no worker begins two requests under one number
+abbrev pub NumbersAreUsedOnce : Type 0
+NumbersAreUsedOnce = (first : World) (trace : List Event) → IsFirst first → IsTrace first trace
+    → (modem : List ℕ) (p q : Pending) → first.has modem ≡ true → Has p (begun trace modem) → Has q (begun trace modem) → p.number ≡ q.number → p ≡ q
 
 -- ---- at the receiver
 

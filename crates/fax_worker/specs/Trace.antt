@@ -54,28 +54,23 @@ fed start (other ∷ earlier) = fed start earlier
 abbrev pub queue_at : World → List Event → Queue
 queue_at first trace = queue_after first.start.queue (fed first.start trace)
 
--- the answer to the accepted request of this client under this number
-abbrev pub kept_answer : Queue → List Fed → List ℕ → ℕ → Option Answer
-kept_answer m [] client number = None
-kept_answer m (f ∷ earlier) client number = if is_of client number f then Some (answer_of (step_of (queue_after m earlier) f)) else kept_answer m earlier client number
-
--- the same request has its answer, and under its number nothing else is accepted
-abbrev pub repeated : Queue → List Fed → Post → Answer → Answer
-repeated m [] p new = new
-repeated m (f ∷ earlier) p new =
-    if is_of p.client p.number f then (if bytes_eq f.post.said p.said then answer_of (step_of (queue_after m earlier) f) else Denied NumberReused NoKeys)
-    else repeated m earlier p new
-
--- a new one is decided
+-- a new request is decided
 abbrev pub new_answer : Start → List Fed → Fed → Answer
 new_answer start earlier f =
     if is_too_high f.post.number f.post.request.ask then Denied FloorHigh NoKeys
     else answer_of (step_of (queue_after start.queue earlier) (under f.settings (raised (floors_after start earlier f.post.client) f.post)))
 
+-- the same request gets the answer that it got when it was accepted, and under its number nothing else is accepted
+abbrev pub repeated : Start → List Fed → Post → Answer → Answer
+repeated start [] p new = new
+repeated start (f ∷ earlier) p new =
+    if is_of p.client p.number f then (if bytes_eq f.post.said p.said then new_answer start earlier f else Denied NumberReused NoKeys)
+    else repeated start earlier p new
+
 -- the queue's answer to a request after these, where its number had no kept reply at the start
 abbrev pub answer_to : Start → List Fed → Fed → Answer
 answer_to start earlier f =
-    if nat_lt (floors_after start earlier f.post.client) f.post.number then repeated start.queue earlier f.post (new_answer start earlier f)
+    if nat_lt (floors_after start earlier f.post.client) f.post.number then repeated start earlier f.post (new_answer start earlier f)
     else Denied GivenUp NoKeys
 
 -- an answer that the queue sent: to this request, under this number

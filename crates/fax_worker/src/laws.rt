@@ -1,13 +1,21 @@
 //! Laws of a queue and its workers.
 //!
-//! Such a function changes nothing: its contract is the law. The statements are in `specs/Laws.antt`.
+//! Such a function changes nothing: its contract is the law. The statements are in `specs/Laws.antt` and `Join.antt`.
 
-ghost use Rattle.fax_worker.specs.Laws.{InOrderAtTheReceiver, OnceAtTheReceiver, TracesAgree};
+ghost use Rattle.fax_worker.specs.Join.{AnswersAreReplies, SessionsAreTraces};
+ghost use Rattle.fax_worker.specs.Laws.{InOrderAtTheReceiver, NumbersAreUsedOnce, OnceAtTheReceiver, ReportsWillBeAccepted, TracesAgree};
 
 /// Whenever nothing is unanswered, a worker that holds a grant and the queue agree about it: it is open, with the same
-/// call, and as many pages are confirmed as the worker has reported. The queue never refuses a worker's report.
+/// call, and as many pages are confirmed as the worker has reported. Each report that a worker has begun is accepted
+/// whenever it reaches the queue.
 pub fn agrees()
-    ensures { TracesAgree }
+    ensures agree { TracesAgree }
+    ensures accepted { ReportsWillBeAccepted }
+{}
+
+/// No worker begins two requests under one number.
+pub fn one_number_one_request()
+    ensures { NumbersAreUsedOnce }
 {}
 
 /// Whatever requests and replies the network loses, doubles and reorders, each page of each job is transmitted once at
@@ -21,4 +29,11 @@ pub fn once_at_the_receiver()
 /// all.
 pub fn in_order_at_the_receiver()
     ensures { InOrderAtTheReceiver }
+{}
+
+/// The queue of a trace is the server's. Each answer is, as bytes, the reply of the request's verdict. Whatever runs of
+/// the server follow one another, they leave what a trace of their requests leaves.
+pub fn traces_are_histories()
+    ensures replies { AnswersAreReplies }
+    ensures sessions { SessionsAreTraces }
 {}
