@@ -18,11 +18,12 @@ use Rattle.fax_core.specs.Queue.{Queue, grant_numbered}
 use Rattle.fax_core.specs.Sound.{IsOpen}
 use Rattle.fax_core.specs.Reply.{Called, Confirmed, Floored, Given, HeldGrant, NoKeys, Reply, Stands}
 use Rattle.fax_core.specs.Run.{Answer, Replied, Denied}
+use Rattle.fax_core.proofs.StepLemmas.{empty_sound}
 use Rattle.fax_core.proofs.RowWords.{◌at◌, hand, order, report, settings, ttyS0}
 use Rattle.fax_run.proofs.RowsRuns.{desk, start}
 use Rattle.fax_run.specs.Reading.{Post}
 use Rattle.fax_run.specs.Run.{end_after, under}
-use Rattle.fax_worker.specs.Trace.{Answered, Begins, Dies, Event, Handles, Has, IsTrace, MayHandle, ReportsIt, Transmits, World, answer_to, begun, fed, queue_at, told, window, worker_at}
+use Rattle.fax_worker.specs.Trace.{Answered, Begins, Dies, Event, Handles, Has, IsFirst, IsTrace, MayHandle, ReportsIt, Shows, Transmits, World, answer_to, begun, fed, queue_at, told, window, worker_at}
 use Rattle.fax_worker.specs.Transmitted.{AreUndisturbed, deaths, pages_after, pages_of, sent_before, transmitted}
 use Rattle.fax_worker.specs.Worker as worker
 use Rattle.fax_worker.specs.Worker.{Action, AsksForWork, Held, Look, ReportsCall, ReportsOutcome, ReportsPage, Worker, with_request}
@@ -161,8 +162,8 @@ submitted_is = (may_ask [] 1 (Submission (order (codes "5550111") 3)) 1000 (reco
 
 called_is : IsTrace world called
 called_is =
-    goes_on 2 (OnGrant 1 (Call Connected)) 1015 (Replied (Called false)) (exchange 1 (Next ttyS0) 1000 (Replied fax) submitted) (ReportsCall Connected) tt (starts (refl, refl)) tt refl
-    (goes_on 1 (Next ttyS0) 1000 (Replied fax) submitted AsksForWork tt (starts refl) tt refl submitted_is)
+    goes_on 2 (OnGrant 1 (Call Connected)) 1015 (Replied (Called false)) (exchange 1 (Next ttyS0) 1000 (Replied fax) submitted) (ReportsCall Connected) tt (starts (refl, refl)) tt refl tt
+    (goes_on 1 (Next ttyS0) 1000 (Replied fax) submitted AsksForWork tt (starts refl) tt refl tt submitted_is)
 
 -- a page of the fax is transmitted
 sends_page : (pages : ℕ) (earlier : List Event) → (worker_at world earlier ttyS0).unanswered ≡ None → (worker_at world earlier ttyS0).held ≡ Some (holds pages)
@@ -171,19 +172,19 @@ sends_page pages earlier none held left before is =
     (record { works = refl; answered = none; held = holds pages; holds = held; connected = refl; of_job = refl; next = omega arith; left = left; reported = before }, is)
 
 one_sent_is : IsTrace world one_sent
-one_sent_is = goes_on 3 (OnGrant 1 (Page 1)) 1245 (Replied (Confirmed 1 false)) (Transmits ttyS0 1 1 ∷ called) ReportsPage tt (starts (refl, (omega arith), refl)) (1, refl) refl
+one_sent_is = goes_on 3 (OnGrant 1 (Page 1)) 1245 (Replied (Confirmed 1 false)) (Transmits ttyS0 1 1 ∷ called) ReportsPage tt (starts (refl, (omega arith), refl)) (1, refl) refl tt
     (sends_page 0 called refl refl (omega arith) refl called_is)
 
 two_sent_is : IsTrace world two_sent
-two_sent_is = goes_on 4 (OnGrant 1 (Page 2)) 1260 (Replied (Confirmed 2 false)) (Transmits ttyS0 1 2 ∷ one_sent) ReportsPage tt (starts (refl, (omega arith), refl)) (1, refl) refl
+two_sent_is = goes_on 4 (OnGrant 1 (Page 2)) 1260 (Replied (Confirmed 2 false)) (Transmits ttyS0 1 2 ∷ one_sent) ReportsPage tt (starts (refl, (omega arith), refl)) (1, refl) refl tt
     (sends_page 1 one_sent refl refl (omega arith) refl one_sent_is)
 
 all_sent_is : IsTrace world all_sent
-all_sent_is = goes_on 5 (OnGrant 1 (Page 3)) 1275 (Replied (Confirmed 3 false)) (Transmits ttyS0 1 3 ∷ two_sent) ReportsPage tt (starts (refl, (omega arith), refl)) (1, refl) refl
+all_sent_is = goes_on 5 (OnGrant 1 (Page 3)) 1275 (Replied (Confirmed 3 false)) (Transmits ttyS0 1 3 ∷ two_sent) ReportsPage tt (starts (refl, (omega arith), refl)) (1, refl) refl tt
     (sends_page 2 two_sent refl refl (omega arith) refl two_sent_is)
 
 done_is : IsTrace world done
-done_is = goes_on 6 (OnGrant 1 (Outcome (report true Done 3 []))) 1280 (Replied (Stands 1 7)) all_sent (ReportsOutcome Done []) tt (starts ((λ e. omega arith), refl)) tt refl all_sent_is
+done_is = goes_on 6 (OnGrant 1 (Outcome (report true Done 3 []))) 1280 (Replied (Stands 1 7)) all_sent (ReportsOutcome Done []) tt (starts ((λ e. omega arith), refl)) tt refl tt all_sent_is
 
 -- each page is transmitted once
 each_once_row : transmitted 1 1 done ∷ transmitted 1 2 done ∷ transmitted 1 3 done ∷ [] ≡ 1 ∷ 1 ∷ 1 ∷ []
@@ -246,6 +247,18 @@ lost_grants_row = refl
 lost_row : worker_at world lost ttyS0 ≡ worker_at world (exchange 1 (Next ttyS0) 1000 (Replied fax) submitted) ttyS0
 lost_row = refl
 
+lost_is : IsTrace world lost
+lost_is = (
+  record { works = refl; answered = record { unanswered = refl; becomes = refl }; sent = inl refl; looked = tt },
+  (
+    may_send (sends 1 (Next ttyS0) 1000 ∷ Begins ttyS0 1 (Next ttyS0) ∷ submitted) 1 (Next ttyS0) 1005 tt (inl refl),
+    (
+      may_send (Begins ttyS0 1 (Next ttyS0) ∷ submitted) 1 (Next ttyS0) 1000 tt (inl refl),
+      (record { works = refl; action = AsksForWork; begins = starts refl; reports = tt }, submitted_is),
+    ),
+  ),
+)
+
 -- ---- a driver dies
 
 -- before the report of the page that it transmitted: the page is the next one still, and is transmitted again
@@ -279,6 +292,21 @@ died_after = Answered ttyS0 3 (OnGrant 1 (Page 1)) (Replied (Confirmed 1 false))
 died_after_row : worker_at world died_after ttyS0 ≡ worker_at world one_sent ttyS0
 died_after_row = refl
 
+died_after_is : IsTrace world died_after
+died_after_is = (
+  record { works = refl; answered = record { unanswered = refl; becomes = refl }; sent = inl refl; looked = tt },
+  (
+    may_send (Dies ttyS0 ∷ Begins ttyS0 3 (OnGrant 1 (Page 1)) ∷ Transmits ttyS0 1 1 ∷ called) 3 (OnGrant 1 (Page 1)) 1300 tt (inl refl),
+    (
+      tt,
+      (
+        record { works = refl; action = ReportsPage; begins = starts (refl, (omega arith), refl); reports = (1, refl) },
+        sends_page 0 called refl refl (omega arith) refl called_is,
+      ),
+    ),
+  ),
+)
+
 -- so it was transmitted once, and this death doesn't count
 once_after_row : transmitted 1 1 died_after ∷ deaths 1 1 died_after ∷ [] ≡ 1 ∷ 0 ∷ []
 once_after_row = refl
@@ -299,6 +327,22 @@ late_answers_row = refl
 late_row : worker_at world late ttyS0 ≡ record { client = ttyS0; last = 2; unanswered = None; held = Some (record (holds 0) { call = None }) }
 late_row = refl
 
+-- all this may come
+refused : List Event
+refused = exchange 1 (Next ttyS0) 1010 (Denied ModemDown NoKeys) (asks 2 (Mark ttyS0 true) 1005 ∷ submitted)
+
+refused_is : IsTrace world refused
+unfolding refused
+refused_is =
+    goes_on 1 (Next ttyS0) 1010 (Denied ModemDown NoKeys) (asks 2 (Mark ttyS0 true) 1005 ∷ submitted) AsksForWork tt (starts refl) tt refl tt
+    (may_ask submitted 2 (Mark ttyS0 true) 1005 tt (λ n r e. cc e), submitted_is)
+
+late_is : IsTrace world late
+unfolding refused
+late_is =
+    goes_on 2 (Next ttyS0) 1200 (Denied ModemBusy (HeldGrant false (hand 1 1 (codes "5550111") 1 3))) (sends 1 (Next ttyS0) 1100 ∷ asks 3 (Mark ttyS0 false) 1050 ∷ refused) AsksForWork tt (starts refl) tt refl tt
+    (may_send (asks 3 (Mark ttyS0 false) 1050 ∷ refused) 1 (Next ttyS0) 1100 tt (inl refl), (may_ask refused 3 (Mark ttyS0 false) 1050 tt (λ n r e. cc e), refused_is))
+
 -- ---- a journal that was lost
 
 -- another journal begins where a page was sent, with numbers above all that were used
@@ -315,6 +359,19 @@ found_answers_row = refl
 -- the worker holds the grant as it was
 found_row : (worker_at without_journal found ttyS0).held ≡ (worker_at world one_sent ttyS0).held
 found_row = refl
+
+found_is : IsTrace without_journal found
+found_is = (
+  record { works = refl; answered = record { unanswered = refl; becomes = refl }; sent = inl refl; looked = (_, refl, refl) },
+  (
+    record {
+      valid = tt;
+      own = λ modem works its. (subst (λ (m : List ℕ). Has (record { number = 101; ask = Next ttyS0 }) (begun (Begins ttyS0 101 (Next ttyS0) ∷ []) m)) its (inl refl), refl);
+      alone = λ n g r e is_open works. cc e;
+    },
+    (record { works = refl; action = AsksForWork; begins = record { answered = refl; new = omega arith; request = refl; becomes = refl }; reports = tt }, tt),
+  ),
+)
 
 -- ---- numbers that are given up
 
