@@ -20,8 +20,8 @@ use Rattle.fax_run.specs.Reading.{Post}
 use Rattle.fax_run.specs.Run.{is_taken, queue_after, step_of, under}
 use Rattle.fax_worker.proofs.StandLemmas.{Arrived, ReportWaits, Stands, name, taken_parts}
 use Rattle.fax_worker.proofs.TraceLemmas.{at_both, sound, stands, traces_agree}
-use Rattle.fax_worker.specs.Laws.{Agrees, OnceAtTheReceiver}
-use Rattle.fax_worker.specs.Trace.{Answered, Begins, Dies, Event, Handles, Has, IsFirst, IsTrace, MayAnswer, MayBegin, MayTransmit, PageOf, Transmits, World, fed, queue_at, told, window, worker_at}
+use Rattle.fax_worker.specs.Laws.{Agrees, OnceAtTheReceiver, TransmitsTheNext}
+use Rattle.fax_worker.specs.Trace.{Answered, Begins, Dies, Event, Handles, Has, IsFirst, IsTrace, MayAnswer, MayBegin, MayTransmit, PageOf, Transmits, World, fed, queue_at, sent_answers, window, worker_at}
 use Rattle.fax_worker.specs.Transmitted.{deaths, is_page, transmitted}
 use Rattle.fax_worker.specs.Worker.{Held, Look, Pending, next_page, with_answer, with_request}
 
@@ -45,7 +45,7 @@ one_modem m a b h k good x y same =
 same_pages : (m : Queue) (n : ℕ) (j k : Job) → IsJob m n j → IsJob m n k → length j.sent ≡ length k.sent
 same_pages m n j k a b = ap (λ (x : Job). length x.sent) (same_job m n j k a b)
 
--- what is sent stays sent, whatever the queue handles
+-- what is sent stays sent after each request that the queue handles
 pub handles_keep : (first : World) (s : Settings) (p : Post) (earlier : List Event) → Sound (queue_at first earlier) → KeepsSent (queue_at first earlier) (queue_at first (Handles s p ∷ earlier))
 handles_keep first s p earlier good =
     let fs = fed first.start earlier in
@@ -79,10 +79,10 @@ module _ (first : World) (earlier : List Event) (at : IsFirst first) (is : IsTra
 
   -- a report of a page waits
   pub report_of : (modem : List ℕ) (n grant page : ℕ) → first.has modem ≡ true → (worker_at first earlier modem).unanswered ≡ Some (record { number = n; ask = OnGrant grant (Page page) })
-      → ReportWaits first modem m (fed first.start earlier) (told first.start earlier (name first modem)) n grant (Page page) (worker_at first earlier modem).held
+      → ReportWaits first modem m (fed first.start earlier) (sent_answers first.start earlier (name first modem)) n grant (Page page) (worker_at first earlier modem).held
   report_of modem n grant page works waits =
       let i = stands first modem works earlier at is in
-      subst (λ (o : Option Pending). Stands first modem m (fed first.start earlier) (told first.start earlier (name first modem)) o (worker_at first earlier modem).held) waits i.stands
+      subst (λ (o : Option Pending). Stands first modem m (fed first.start earlier) (sent_answers first.start earlier (name first modem)) o (worker_at first earlier modem).held) waits i.stands
 
   -- once it is accepted the page is confirmed
   arrived_confirmed : (modem : List ℕ) (n grant page : ℕ) (h : Held) → page ≡ next_page h → Arrived first modem m (fed first.start earlier) n (Page page) h → (j : Job) × IsJob m h.job j × (page ≡ length j.sent)
@@ -177,10 +177,10 @@ module _ (first : World) (earlier : List Event) (at : IsFirst first) (is : IsTra
         let same = (bytes_decides modem other).0 on in
         let its : (worker_at first earlier other).unanswered ≡ Some (record { number = n; ask = ask }) = subst (λ (x : List ℕ). (worker_at first earlier x).unanswered ≡ Some (record { number = n; ask = ask })) same may.answered.unanswered in
         let one : Path Pending (record { number = n; ask = ask }) (record { number = k; ask = OnGrant grant (Page page) }) = (let both = sym its ∙ waits in cc) in
-        let sent : Has (record { number = n; ask = ask; answer = answer }) (told first.start earlier (name first other)) =
-        subst (λ (x : List ℕ). Has (record { number = n; ask = ask; answer = answer }) (told first.start earlier (first.worker x).client)) same may.sent in
-        let mine : Has (record { number = k; ask = OnGrant grant (Page page); answer = answer }) (told first.start earlier (name first other)) =
-        subst (λ (x : Pending). Has (record { number = x.number; ask = x.ask; answer = answer }) (told first.start earlier (name first other))) one sent in
+        let sent : Has (record { number = n; ask = ask; answer = answer }) (sent_answers first.start earlier (name first other)) =
+        subst (λ (x : List ℕ). Has (record { number = n; ask = ask; answer = answer }) (sent_answers first.start earlier (first.worker x).client)) same may.sent in
+        let mine : Has (record { number = k; ask = OnGrant grant (Page page); answer = answer }) (sent_answers first.start earlier (name first other)) =
+        subst (λ (x : Pending). Has (record { number = x.number; ask = x.ask; answer = answer }) (sent_answers first.start earlier (name first other))) one sent in
         let it = report_of other k grant page works waits in
         let same_held : it.h ≡ h = (let both = sym it.holds ∙ holds in cc) in
         elim it.state [
@@ -274,3 +274,12 @@ once_at_the_receiver first trace at is job page = elim (bounded first trace job 
   | inl few ↦ omega (arith, few)
   | inr (few, passed) ↦ few
 ]
+
+-- ---- each transmission
+
+pub transmits_the_next : TransmitsTheNext
+transmits_the_next first earlier modem job page at (may, is) =
+    let m = queue_at first earlier in
+    let a = agrees_of first earlier at is modem may.held may.works may.answered may.holds in
+    let it = job_of m modem may.held (good first earlier at is) a in
+    (it.0, subst (λ (i : ℕ). IsJob m i it.0) may.of_job it.1, sym may.next ∙ it.2)

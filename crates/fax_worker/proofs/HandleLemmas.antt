@@ -20,7 +20,7 @@ use Rattle.fax_run.specs.Run.{Fed, floors_after, is_of, is_taken, queue_after, s
 use Rattle.fax_worker.proofs.QueueLemmas.{accepts, grant_stays}
 use Rattle.fax_worker.proofs.StandLemmas.{HoldsSo, Inv, IsPlain, IsSent, IsTaken, NextLeads, Stands, Stays, Waits, agrees_still, answer_above, answer_new, any_later, any_off, any_on, floors_below, floors_other, floors_up, is_accepted, kept_answer, name, new_plain, next_still, plain_next, plain_report, repeats_kept, step_leads, taken_from}
 use Rattle.fax_worker.specs.Laws.{Agrees}
-use Rattle.fax_worker.specs.Trace.{CallsComeFirst, Has, PageOf, Told, World, answer_to, new_answer}
+use Rattle.fax_worker.specs.Trace.{CallsComeFirst, Has, PageOf, SentAnswer, World, answer_to, new_answer}
 use Rattle.fax_worker.specs.Worker.{Held, Pending, Worker}
 
 -- texts that differ
@@ -30,7 +30,7 @@ differ a b other = elim (cases_Bool (bytes_eq a b)) [
   | inr off ↦ off
 ]
 
--- a request that is taken and no report on a modem's grant leaves its open grants
+-- an accepted request that is no report on a modem's grant leaves its open grants
 pub stays_by : (modem : List ℕ) (m : Queue) (f : Fed) (n : Queue) (r : Reply) → Sound m → step_of m f ≡ Taken n r
     → ((a : ℕ) (g : Grant) (x : Report) → IsOpen m a g → g.modem ≡ modem → f.post.request.ask ≢ OnGrant a x) → Stays modem m (left_by m (step_of m f))
 stays_by modem m f n r sound taken none a g is of_modem =
@@ -44,18 +44,18 @@ module _ (first : World) (modem : List ℕ) where
   -- ---- what waits goes on waiting
 
   -- what holds of an answer holds of each that was sent, whether before or now
-  abbrev SentBefore : List Fed → List Told → List Fed → List Told → ℕ → Type 0
+  abbrev SentBefore : List Fed → List SentAnswer → List Fed → List SentAnswer → ℕ → Type 0
   SentBefore fs ts gs us n = (ask : Ask) (answer : Answer) → (Has (record { number = n; ask = ask; answer = answer }) us → Has (record { number = n; ask = ask; answer = answer }) ts)
       × (kept_answer first.start gs c n ≡ Some answer → kept_answer first.start fs c n ≡ Some answer)
 
-  sent_before : (fs : List Fed) (ts : List Told) (gs : List Fed) (us : List Told) (n : ℕ) (ask : Ask) (answer : Answer) → SentBefore fs ts gs us n → IsSent first modem gs us n ask answer → IsSent first modem fs ts n ask answer
+  sent_before : (fs : List Fed) (ts : List SentAnswer) (gs : List Fed) (us : List SentAnswer) (n : ℕ) (ask : Ask) (answer : Answer) → SentBefore fs ts gs us n → IsSent first modem gs us n ask answer → IsSent first modem fs ts n ask answer
   sent_before fs ts gs us n ask answer before (inl has) = inl ((before ask answer).0 has)
   sent_before fs ts gs us n ask answer before (inr kept) = inr ((before ask answer).1 kept)
 
   holds_still : (m n : Queue) (held : Option Held) → Stays modem m n → HoldsSo first modem m held → HoldsSo first modem n held
   holds_still m n held stays so h e = agrees_still modem m n h stays (so h e)
 
-  waits_still : (m n : Queue) (fs gs : List Fed) (ts us : List Told) (k : ℕ) (ask : Ask) (held : Option Held) → Stays modem m n → is_accepted first modem gs k ≡ is_accepted first modem fs k → SentBefore fs ts gs us k
+  waits_still : (m n : Queue) (fs gs : List Fed) (ts us : List SentAnswer) (k : ℕ) (ask : Ask) (held : Option Held) → Stays modem m n → is_accepted first modem gs k ≡ is_accepted first modem fs k → SentBefore fs ts gs us k
       → Waits first modem m fs ts k ask held → Waits first modem n gs us k ask held
   waits_still m n fs gs ts us k (Next asked) held stays same before w = record {
     own = w.own;
@@ -75,21 +75,21 @@ module _ (first : World) (modem : List ℕ) where
   }
   waits_still m n fs gs ts us k other held stays same before w = holds_still m n held stays w
 
-  stands_still : (m n : Queue) (fs gs : List Fed) (ts us : List Told) (o : Option Pending) (held : Option Held) → Stays modem m n
+  stands_still : (m n : Queue) (fs gs : List Fed) (ts us : List SentAnswer) (o : Option Pending) (held : Option Held) → Stays modem m n
       → ((p : Pending) → o ≡ Some p → (is_accepted first modem gs p.number ≡ is_accepted first modem fs p.number) × SentBefore fs ts gs us p.number)
       → Stands first modem m fs ts o held → Stands first modem n gs us o held
   stands_still m n fs gs ts us None held stays same w = holds_still m n held stays w
   stands_still m n fs gs ts us (Some p) held stays same w = let x = same p refl in waits_still m n fs gs ts us p.number p.ask held stays x.0 x.1 w
 
-  module _ (w : Worker) (fs : List Fed) (bs : List Pending) (ts : List Told) (win : Option PageOf) (i : Inv first modem w fs bs ts win) where
+  module _ (w : Worker) (fs : List Fed) (bs : List Pending) (ts : List SentAnswer) (win : Option PageOf) (i : Inv first modem w fs bs ts win) where
     abbrev m : Queue
     m = queue_after first.start.queue fs
 
-    -- where one more request is taken
-    with_fed : (f : Fed) (us : List Told)
+    -- where one more request is accepted
+    with_fed : (f : Fed) (us : List SentAnswer)
         → (f.post.client ≡ c → Has (record { number = f.post.number; ask = f.post.request.ask }) bs × (f.post.said ≡ first.says f.post.request.ask))
         → ((n : ℕ) → w.last ≤ n → floors_after first.start fs c < n → floors_after first.start (f ∷ fs) c < n)
-        → ((t : Told) → Has t us → t.number ≤ w.last)
+        → ((t : SentAnswer) → Has t us → t.number ≤ w.last)
         → Stands first modem (queue_after first.start.queue (f ∷ fs)) (f ∷ fs) us w.unanswered w.held
         → Inv first modem w (f ∷ fs) bs us win
     with_fed f us own floors low stands = record {
@@ -105,7 +105,7 @@ module _ (first : World) (modem : List ℕ) where
       free = i.free;
       floor = let small = floors (w.last + 1) (omega arith) (omega (arith, i.floor)) in omega (arith, small);
       above = λ p e. let last = (i.waits p e).1 in floors p.number (omega (arith, last)) (i.above p e);
-      told_low = low;
+      sent_low = low;
       settled = λ p grant x has e. elim (i.settled p grant x has e) [
         | inl was ↦ inl was
         | inr rest ↦ elim rest [
@@ -118,7 +118,7 @@ module _ (first : World) (modem : List ℕ) where
     }
 
     -- where one more answer is sent
-    with_told : (us : List Told) → ((t : Told) → Has t us → t.number ≤ w.last) → Stands first modem m fs us w.unanswered w.held → Inv first modem w fs bs us win
+    with_told : (us : List SentAnswer) → ((t : SentAnswer) → Has t us → t.number ≤ w.last) → Stands first modem m fs us w.unanswered w.held → Inv first modem w fs bs us win
     with_told us low stands = record {
       low = i.low;
       once = i.once;
@@ -129,7 +129,7 @@ module _ (first : World) (modem : List ℕ) where
       free = i.free;
       floor = i.floor;
       above = i.above;
-      told_low = low;
+      sent_low = low;
       settled = i.settled;
       stands = stands;
       in_window = i.in_window;
@@ -141,7 +141,7 @@ module _ (first : World) (modem : List ℕ) where
     other_taken f other stays =
         let off : (n : ℕ) → is_of c n f ≡ false = λ n. ap (λ b. b && eqb f.post.number n) (differ f.post.client c other) in
         let floors = floors_other f.post.client f.post.request.ask (floors_after first.start fs) c (differ c f.post.client (λ q. other (sym q))) in
-        with_fed f ts (λ its. absurd (other its)) (λ n last low. subst (λ (x : ℕ). x < n) (sym floors) low) i.told_low
+        with_fed f ts (λ its. absurd (other its)) (λ n last low. subst (λ (x : ℕ). x < n) (sym floors) low) i.sent_low
         (stands_still m (queue_after first.start.queue (f ∷ fs)) fs (f ∷ fs) ts ts w.unanswered w.held stays
         (λ p e. (any_off (is_of c p.number) f fs (off p.number), λ ask answer. (λ has. has, λ kept. rw (off p.number) at kept)))
         i.stands)
@@ -158,16 +158,16 @@ module _ (first : World) (modem : List ℕ) where
       abbrev answer : Answer
       answer = answer_to first.start fs f
 
-      abbrev us : List Told
+      abbrev us : List SentAnswer
       us = record { number = k; ask = ask; answer = answer } ∷ ts
 
       abbrev next : Queue
       next = queue_after first.start.queue (f ∷ fs)
 
       -- its number is one that was begun
-      us_low : (t : Told) → Has t us → t.number ≤ w.last
-      us_low t (inl same) = let small = i.low _ has in let at : k ≡ t.number = ap (λ (x : Told). x.number) same in omega (arith, small, at)
-      us_low t (inr old) = i.told_low t old
+      us_low : (t : SentAnswer) → Has t us → t.number ≤ w.last
+      us_low t (inl same) = let small = i.low _ has in let at : k ≡ t.number = ap (λ (x : SentAnswer). x.number) same in omega (arith, small, at)
+      us_low t (inr old) = i.sent_low t old
 
       -- a floor that it gives up is low
       own_floors : (n : ℕ) → w.last ≤ n → floors_after first.start fs c < n → floors_after first.start (f ∷ fs) c < n
@@ -175,10 +175,10 @@ module _ (first : World) (modem : List ℕ) where
 
       -- an answer under another number was sent before
       other_sent : (n : ℕ) → n ≢ k → (a : Ask) (x : Answer) → Has (record { number = n; ask = a; answer = x }) us → Has (record { number = n; ask = a; answer = x }) ts
-      other_sent n other a x (inl same) = absurd (other (sym (ap (λ (t : Told). t.number) same)))
+      other_sent n other a x (inl same) = absurd (other (sym (ap (λ (t : SentAnswer). t.number) same)))
       other_sent n other a x (inr old) = old
 
-      -- ---- it is taken
+      -- ---- it is accepted
 
       module _ (it : IsTaken first.start fs f) (sound : Sound m) (calls : CallsComeFirst m) where
         -- nothing was accepted under its number
@@ -222,13 +222,13 @@ module _ (first : World) (modem : List ℕ) where
         answer_is : IsPlain ask → answer ≡ answer_of (step_of m f)
         answer_is plain = answer_new first.start fs f it.above' plain it.unused
 
-        -- so is each answer that is sent to it from now on, but for those sent before
+        -- each answer that is sent to it is that one, or was sent before
         sent_is : IsPlain ask → (a : Ask) (x : Answer) → IsSent first modem (f ∷ fs) us k a x → (x ≡ answer_of (step_of m f)) ⊎ Has (record { number = k; ask = a; answer = x }) ts
-        sent_is plain a x (inl (inl same)) = inl (sym (ap (λ (t : Told). t.answer) same) ∙ answer_is plain)
+        sent_is plain a x (inl (inl same)) = inl (sym (ap (λ (t : SentAnswer). t.answer) same) ∙ answer_is plain)
         sent_is plain a x (inl (inr old)) = inr old
         sent_is plain a x (inr kept) = inl (let both : Some (new_answer first.start fs f) ≡ Some x = (rw here at kept) in let same : new_answer first.start fs f ≡ x = cc in sym same ∙ new_plain first.start fs f plain)
 
-        -- the unanswered request is taken
+        -- the unanswered request is accepted
         taken_this : (a : Ask) (held : Option Held) → ask ≡ a → Waits first modem m fs ts k a held → Waits first modem next (f ∷ fs) us k a held
         taken_this (Next asked) held e waits = record {
           own = waits.own;
@@ -267,7 +267,7 @@ module _ (first : World) (modem : List ℕ) where
             (subst (λ (o : Option Pending). Stands first modem next (f ∷ fs) us o w.held) (sym is)
             (taken_this ask w.held refl (subst (λ (o : Option Pending). Stands first modem m fs ts o w.held) is i.stands)))
 
-      -- ---- it isn't taken
+      -- ---- it isn't accepted
 
       module _ (untaken : is_taken first.start fs f ≡ false) (sound : Sound m) (calls : CallsComeFirst m) where
         pub late_untaken : ((p : Pending) → w.unanswered ≡ Some p → p.number ≢ k) → Inv first modem w fs bs us win
@@ -295,7 +295,7 @@ module _ (first : World) (modem : List ℕ) where
                   let b = i.own g there ((bytes_decides g.post.client f.post.client).0 parts.0 ∙ its) in
                   b.1 ∙ ap first.says (i.once _ _ b.0 has (eqb-true g.post.number k parts.1)) ∙ sym says
 
-          -- one that wasn't isn't taken by the machine either
+          -- one that wasn't accepted is refused by the machine
           not_taken : is_accepted first modem fs k ≡ false → IsPlain ask → (n : Queue) (r : Reply) → step_of m f ≡ Taken n r → ⊥
           not_taken off plain n r e =
               let on = taken_from first.start fs f above
@@ -321,7 +321,7 @@ module _ (first : World) (modem : List ℕ) where
             leads = λ x sent. elim sent [
               | inl told ↦ elim told [
                 | inl same ↦
-                    let x_is : answer ≡ x = ap (λ (t : Told). t.answer) same in
+                    let x_is : answer ≡ x = ap (λ (t : SentAnswer). t.answer) same in
                     elim (cases_Bool (is_accepted first modem fs k)) [
                       | inl on ↦ waits.leads x (inr (repeat_is on ∙ ap (λ (y : Answer). Some y) x_is))
                       | inr off ↦
@@ -345,7 +345,7 @@ module _ (first : World) (modem : List ℕ) where
               fits = waits.fits;
               accepted = λ y sent. elim sent [
                 | inl told ↦ elim told [
-                  | inl same ↦ waits.accepted y (inr (repeat_is arrived.used ∙ ap (λ (z : Answer). Some z) (ap (λ (t : Told). t.answer) same)))
+                  | inl same ↦ waits.accepted y (inr (repeat_is arrived.used ∙ ap (λ (z : Answer). Some z) (ap (λ (t : SentAnswer). t.answer) same)))
                   | inr old ↦ waits.accepted y (inl old)
                 ]
                 | inr kept ↦ waits.accepted y (inr kept)
@@ -361,7 +361,7 @@ module _ (first : World) (modem : List ℕ) where
               (subst (λ (o : Option Pending). Stands first modem m fs us o w.held) (sym is)
               (untaken_this ask w.held refl (subst (λ (o : Option Pending). Stands first modem m fs ts o w.held) is i.stands)))
 
-      -- ---- whether it is taken, and whether it is the unanswered one
+      -- ---- accepted or not, unanswered or not
 
       -- the unanswered request, or one under another number
       which : (o : Option Pending) → w.unanswered ≡ o → (w.unanswered ≡ Some (record { number = k; ask = ask })) ⊎ ((p : Pending) → w.unanswered ≡ Some p → p.number ≢ k)

@@ -37,7 +37,7 @@ step_sent : (x : Step) → step_reply x ≡ response_of (answer_of x)
 step_sent (Taken n r) = refl
 step_sent (Refused e k) = refl
 
--- what a step comes to is answered so
+-- the reply of a step's verdict is its answer, as it is sent
 stepped_reply : (p : Post) (k : Ledger) (x : Step) → reply_of (stepped p k x) ≡ response_of (answer_of x)
 stepped_reply p k (Taken n r) = refl
 stepped_reply p k (Refused e q) = refl
@@ -164,7 +164,7 @@ answers_are_replies start fs s p are none =
 
 -- ---- sessions
 
--- the requests of what was heard, as events
+-- the requests that a session processed, as events
 abbrev heard_events : Settings → List Reading → List Event → List Event
 heard_events s [] earlier = earlier
 heard_events s (Posts p ∷ past) earlier = Handles s p ∷ heard_events s past earlier
@@ -182,7 +182,7 @@ events_lead s first earlier (Posts p ∷ past) =
     ∙ sym (behind s next (taken s next past) (Posts p))
 
 module _ (x : Session) where
-  -- what was heard came in the session
+  -- all that was processed came in the session
   abbrev AllCame : List Reading → Type 0
   AllCame [] = ⊤
   AllCame (Posts p ∷ past) = CameIn x x.settings p × AllCame past

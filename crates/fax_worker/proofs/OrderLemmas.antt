@@ -29,7 +29,7 @@ use Rattle.fax_worker.proofs.JobLemmas.{Is_new, IsWhole, Made, NoPageOf, Paged, 
 use Rattle.fax_worker.proofs.StandLemmas.{IsTaken, any_later, any_off, any_on, is_accepted, name, new_unused, taken_parts}
 use Rattle.fax_worker.proofs.TraceLemmas.{at_both, sound, stands}
 use Rattle.fax_worker.specs.Laws.{Agrees, DoneJobsAreSent, InOrderAtTheReceiver, PagesGoInOrder}
-use Rattle.fax_worker.specs.Trace.{Answered, Begins, Dies, Event, Handles, Has, IsFirst, IsTrace, MayAnswer, MayBegin, MayHandle, MayTransmit, PageOf, ReportsIt, Transmits, World, begun, fed, queue_at, told, window, worker_at}
+use Rattle.fax_worker.specs.Trace.{Answered, Begins, Dies, Event, Handles, Has, IsFirst, IsTrace, MayAnswer, MayBegin, MayHandle, MayTransmit, PageOf, ReportsIt, Transmits, World, begun, fed, queue_at, sent_answers, window, worker_at}
 use Rattle.fax_worker.specs.Transmitted.{AreUndisturbed, IsUndisturbed, pages_after, pages_of, sent_before, sent_or}
 use Rattle.fax_worker.specs.Worker.{Held, Look, Pending, Worker, with_answer, with_request}
 
@@ -138,7 +138,7 @@ module _ (first : World) (earlier : List Event) (at : IsFirst first) (is : IsTra
         (ap (λ b. (cond b (with_request k ask (worker_at first earlier other)) (worker_at first earlier other)).unanswered) on ∙ ap (λ (a : Ask). Some (record { number = k; ask = a })) reports.1)
         (ap (λ b. (cond b (with_request k ask (worker_at first earlier other)) (worker_at first earlier other)).held) on ∙ it.holds)
         it.of_job
-        (new_unused first other (worker_at first earlier other) fs (begun earlier other) (told first.start earlier (name first other)) (window earlier other) i k new)
+        (new_unused first other (worker_at first earlier other) fs (begun earlier other) (sent_answers first.start earlier (name first other)) (window earlier other) i k new)
     | inr off ↦ In_window other works page (ap (λ b. cond b None (window earlier other)) off ∙ win)
   ]
   begins_on modem k ask may (Unaccepted other works n grant page h waits holds of_job unused) = elim (cases_Bool (bytes_eq modem other)) [
@@ -196,10 +196,10 @@ module _ (first : World) (earlier : List Event) (at : IsFirst first) (is : IsTra
         let same = (bytes_decides modem other).0 on in
         let its : (worker_at first earlier other).unanswered ≡ Some (record { number = k; ask = ask }) = subst (λ (x : List ℕ). (worker_at first earlier x).unanswered ≡ Some (record { number = k; ask = ask })) same may.answered.unanswered in
         let one : Path Pending (record { number = k; ask = ask }) (record { number = n; ask = OnGrant grant (Page page) }) = (let both = sym its ∙ waits in cc) in
-        let sent : Has (record { number = k; ask = ask; answer = answer }) (told first.start earlier (name first other)) =
-        subst (λ (x : List ℕ). Has (record { number = k; ask = ask; answer = answer }) (told first.start earlier (first.worker x).client)) same may.sent in
-        let mine : Has (record { number = n; ask = OnGrant grant (Page page); answer = answer }) (told first.start earlier (name first other)) =
-        subst (λ (x : Pending). Has (record { number = x.number; ask = x.ask; answer = answer }) (told first.start earlier (name first other))) one sent in
+        let sent : Has (record { number = k; ask = ask; answer = answer }) (sent_answers first.start earlier (name first other)) =
+        subst (λ (x : List ℕ). Has (record { number = k; ask = ask; answer = answer }) (sent_answers first.start earlier (first.worker x).client)) same may.sent in
+        let mine : Has (record { number = n; ask = OnGrant grant (Page page); answer = answer }) (sent_answers first.start earlier (name first other)) =
+        subst (λ (x : Pending). Has (record { number = x.number; ask = x.ask; answer = answer }) (sent_answers first.start earlier (name first other))) one sent in
         let it = report_of first earlier at is other n grant page works waits in
         elim it.state [
           | inl waiting ↦ absurd (waiting.silent answer mine)
@@ -538,7 +538,7 @@ in_order first (Dies modem ∷ earlier) job at whole (may, is) (u, us) =
     ordered_same first (worker_at first earlier) (worker_at first (Dies modem ∷ earlier)) (window earlier) (window (Dies modem ∷ earlier)) (pages_of job earlier) (fed first.start earlier) job
     (dies_on first earlier at is job modem u) (dies_back first earlier at is job modem) (in_order first earlier job at whole is us)
 
--- ---- what it comes to
+-- ---- the law
 
 -- a job with no page left has sent all
 all_sent : (j : Job) → HasPages j → j.left ≡ [] → length j.sent ≡ j.totpages

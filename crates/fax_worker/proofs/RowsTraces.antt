@@ -23,7 +23,7 @@ use Rattle.fax_core.proofs.RowWords.{◌at◌, hand, order, report, settings, tt
 use Rattle.fax_run.proofs.RowsRuns.{desk, start}
 use Rattle.fax_run.specs.Reading.{Post}
 use Rattle.fax_run.specs.Run.{end_after, under}
-use Rattle.fax_worker.specs.Trace.{Answered, Begins, Dies, Event, Handles, Has, IsFirst, IsTrace, MayHandle, ReportsIt, Shows, Transmits, World, answer_to, begun, fed, queue_at, told, window, worker_at}
+use Rattle.fax_worker.specs.Trace.{Answered, Begins, Dies, Event, Handles, Has, IsFirst, IsTrace, MayHandle, ReportsIt, Shows, Transmits, World, answer_to, begun, fed, queue_at, sent_answers, window, worker_at}
 use Rattle.fax_worker.specs.Transmitted.{AreUndisturbed, deaths, pages_after, pages_of, sent_before, transmitted}
 use Rattle.fax_worker.specs.Worker as worker
 use Rattle.fax_worker.specs.Worker.{Action, AsksForWork, Held, Look, ReportsCall, ReportsOutcome, ReportsPage, Worker, with_request}
@@ -65,7 +65,7 @@ fax = Given (hand 1 1 (codes "5550111") 1 3)
 
 -- the answers that the worker was sent
 abbrev answers : List Event → List Answer
-answers trace = map (λ t. t.answer) (told start trace ttyS0)
+answers trace = map (λ t. t.answer) (sent_answers start trace ttyS0)
 
 abbrev phases : List Event → List Phase
 phases trace = map (λ j. j.phase) (queue_at world trace).jobs
@@ -353,7 +353,7 @@ abbrev found : List Event
 found = Answered ttyS0 101 (Next ttyS0) (Denied ModemBusy (HeldGrant true (hand 1 1 (codes "5550111") 1 3))) (record { call = Some Connected; pages = 1 })
     ∷ sends 101 (Next ttyS0) 1300 ∷ Begins ttyS0 101 (Next ttyS0) ∷ []
 
-found_answers_row : map (λ t. t.answer) (told without_journal.start found ttyS0) ≡ Denied ModemBusy (HeldGrant true (hand 1 1 (codes "5550111") 1 3)) ∷ []
+found_answers_row : map (λ t. t.answer) (sent_answers without_journal.start found ttyS0) ≡ Denied ModemBusy (HeldGrant true (hand 1 1 (codes "5550111") 1 3)) ∷ []
 found_answers_row = refl
 
 -- the worker holds the grant as it was

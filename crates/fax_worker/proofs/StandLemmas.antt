@@ -26,7 +26,7 @@ use Rattle.fax_run.specs.Run.{Fed, Start, floors_after, floors_by, is_new, is_of
 use Rattle.fax_run.specs.Verdict.{is_too_high, raised, raised_ask}
 use Rattle.fax_worker.proofs.QueueLemmas.{FitsHeld, step_given}
 use Rattle.fax_worker.specs.Laws.{Agrees}
-use Rattle.fax_worker.specs.Trace.{CallsComeFirst, Has, PageOf, Shows, Told, World, answer_to, new_answer, repeated}
+use Rattle.fax_worker.specs.Trace.{CallsComeFirst, Has, PageOf, Shows, SentAnswer, World, answer_to, new_answer, repeated}
 use Rattle.fax_worker.specs.Worker as worker
 use Rattle.fax_worker.specs.Worker.{Action, Held, IsRequest, Look, Pending, Worker, after_report, held_after, held_of, next_page, with_answer, with_request}
 
@@ -92,7 +92,7 @@ floors_up client (GiveUp u) floors c = by (bytes_eq c client) refl
     by false off = omega arith
 floors_up client other floors c = omega arith
 
--- ---- what is taken
+-- ---- accepted requests
 
 pub record IsTaken (start : Start) (fs : List Fed) (f : Fed) : Type 0 where
   pub above : floors_after start fs f.post.client < f.post.number
@@ -117,7 +117,7 @@ taken_parts start fs f on =
     let it = taken_step (step_of (queue_after start.queue fs) f) d.1 in
     record { above = below _ _ b.0; above' = b.0; unused = not-true _ c.1; after = it.0; reply = it.1; taken = it.2 }
 
--- a request that the queue takes under a new number is taken
+-- a request with a new number is accepted where the machine accepts it
 pub taken_from : (start : Start) (fs : List Fed) (f : Fed) → nat_lt (floors_after start fs f.post.client) f.post.number ≡ true → kept_for f.post.client f.post.number start.kept.replies ≡ None
     → list_any (is_of f.post.client f.post.number) fs ≡ false → is_too_high f.post.number f.post.request.ask ≡ false
     → (n : Queue) (r : Reply) → step_of (queue_after start.queue fs) f ≡ Taken n r → is_taken start fs f ≡ true
@@ -129,7 +129,7 @@ taken_from start fs f above none unused low n r e =
 
 -- ---- what is answered
 
--- a request that gives up no replies is decided as it stands
+-- a request that gives up no replies is decided as it is
 pub record IsPlain (ask : Ask) : Type 0 where
   pub raised : (floor : ℕ) → raised_ask floor ask ≡ ask
   pub low : (n : ℕ) → is_too_high n ask ≡ false
@@ -170,7 +170,7 @@ repeats_kept start (f ∷ fs) p new any same = elim (cases_Bool (is_of p.client 
   | inr off ↦ rw off (repeats_kept start fs p new (sym (any_off (is_of p.client p.number) f fs off) ∙ any) (λ g has. same g (inr has)))
 ]
 
--- a plain request is decided as it stands
+-- a plain request is decided as it is
 pub new_plain : (start : Start) (fs : List Fed) (f : Fed) → IsPlain f.post.request.ask → new_answer start fs f ≡ answer_of (step_of (queue_after start.queue fs) f)
 new_plain start fs f plain =
     let p = f.post in
@@ -285,17 +285,17 @@ module _ (first : World) (modem : List ℕ) where
   is_accepted fs n = list_any (is_of name n) fs
 
   -- an answer that was sent to a request, or would be
-  abbrev pub IsSent : List Fed → List Told → ℕ → Ask → Answer → Type 0
+  abbrev pub IsSent : List Fed → List SentAnswer → ℕ → Ask → Answer → Type 0
   IsSent fs ts n ask answer = Has (record { number = n; ask = ask; answer = answer }) ts ⊎ (kept_answer first.start fs name n ≡ Some answer)
 
   -- while `next` is unanswered nothing is held, and each answer leads to agreement
-  pub record NextWaits (m : Queue) (fs : List Fed) (ts : List Told) (n : ℕ) (asked : List ℕ) (held : Option Held) : Type 0 where
+  pub record NextWaits (m : Queue) (fs : List Fed) (ts : List SentAnswer) (n : ℕ) (asked : List ℕ) (held : Option Held) : Type 0 where
     pub own : asked ≡ modem
     pub none : held ≡ None
     pub leads : (answer : Answer) → IsSent fs ts n (Next asked) answer → NextLeads m modem answer
 
   -- a report that isn't accepted yet has no answer, and the queue agrees
-  pub record Waiting (m : Queue) (fs : List Fed) (ts : List Told) (n grant : ℕ) (x : Report) (h : Held) : Type 0 where
+  pub record Waiting (m : Queue) (fs : List Fed) (ts : List SentAnswer) (n grant : ℕ) (x : Report) (h : Held) : Type 0 where
     pub unused : is_accepted fs n ≡ false
     pub agrees : Agrees m modem h
     pub silent : (answer : Answer) → Has (record { number = n; ask = OnGrant grant x; answer = answer }) ts → ⊥
@@ -305,7 +305,7 @@ module _ (first : World) (modem : List ℕ) where
     pub used : is_accepted fs n ≡ true
     pub agrees : (k : Held) → after_report x h ≡ Some k → Agrees m modem k
 
-  pub record ReportWaits (m : Queue) (fs : List Fed) (ts : List Told) (n grant : ℕ) (x : Report) (held : Option Held) : Type 0 where
+  pub record ReportWaits (m : Queue) (fs : List Fed) (ts : List SentAnswer) (n grant : ℕ) (x : Report) (held : Option Held) : Type 0 where
     pub h : Held
     pub holds : held ≡ Some h
     pub its : grant ≡ h.grant
@@ -317,13 +317,13 @@ module _ (first : World) (modem : List ℕ) where
   abbrev pub HoldsSo : Queue → Option Held → Type 0
   HoldsSo m held = (h : Held) → held ≡ Some h → Agrees m modem h
 
-  abbrev pub Waits : Queue → List Fed → List Told → ℕ → Ask → Option Held → Type 0
+  abbrev pub Waits : Queue → List Fed → List SentAnswer → ℕ → Ask → Option Held → Type 0
   Waits m fs ts n (Next asked) held = NextWaits m fs ts n asked held
   Waits m fs ts n (OnGrant grant x) held = ReportWaits m fs ts n grant x held
   Waits m fs ts n other held = HoldsSo m held
 
   -- by what is unanswered
-  abbrev pub Stands : Queue → List Fed → List Told → Option Pending → Option Held → Type 0
+  abbrev pub Stands : Queue → List Fed → List SentAnswer → Option Pending → Option Held → Type 0
   Stands m fs ts None held = HoldsSo m held
   Stands m fs ts (Some p) held = Waits m fs ts p.number p.ask held
 
@@ -337,11 +337,11 @@ module _ (first : World) (modem : List ℕ) where
     pub next : next_page held ≡ p.page
     pub left : p.page ≤ held.last_page
 
-  -- where a report stands that was begun
+  -- a report that was begun is unanswered, accepted or given up
   abbrev pub IsSettled : Worker → List Fed → Pending → Type 0
   IsSettled w fs p = (w.unanswered ≡ Some p) ⊎ (is_accepted fs p.number ≡ true) ⊎ (p.number ≤ floors_after first.start fs name)
 
-  pub record Inv (w : Worker) (fs : List Fed) (bs : List Pending) (ts : List Told) (win : Option PageOf) : Type 0 where
+  pub record Inv (w : Worker) (fs : List Fed) (bs : List Pending) (ts : List SentAnswer) (win : Option PageOf) : Type 0 where
     -- what is begun has a number of its own, the last at most
     pub low : (p : Pending) → Has p bs → p.number ≤ w.last
     pub once : (p q : Pending) → Has p bs → Has q bs → p.number ≡ q.number → p.ask ≡ q.ask
@@ -354,7 +354,7 @@ module _ (first : World) (modem : List ℕ) where
     pub free : (p : Pending) → w.unanswered ≡ Some p → kept_for name p.number first.start.kept.replies ≡ None
     pub floor : floors_after first.start fs name ≤ w.last
     pub above : (p : Pending) → w.unanswered ≡ Some p → floors_after first.start fs name < p.number
-    pub told_low : (t : Told) → Has t ts → t.number ≤ w.last
+    pub sent_low : (t : SentAnswer) → Has t ts → t.number ≤ w.last
     pub settled : (p : Pending) (grant : ℕ) (x : Report) → Has p bs → p.ask ≡ OnGrant grant x → IsSettled w fs p
     pub stands : Stands (queue_after first.start.queue fs) fs ts w.unanswered w.held
     pub in_window : (p : PageOf) → win ≡ Some p → IsInWindow w p
@@ -380,7 +380,7 @@ module _ (first : World) (modem : List ℕ) where
         (it.0, inr it.1, it.2, it.3)
   ]
 
-  module _ (w : Worker) (fs : List Fed) (bs : List Pending) (ts : List Told) (win : Option PageOf) (i : Inv w fs bs ts win) where
+  module _ (w : Worker) (fs : List Fed) (bs : List Pending) (ts : List SentAnswer) (win : Option PageOf) (i : Inv w fs bs ts win) where
     abbrev m : Queue
     m = queue_after first.start.queue fs
 
@@ -396,7 +396,7 @@ module _ (first : World) (modem : List ℕ) where
 
     -- and no answer was sent
     new_silent : (n : ℕ) (ask : Ask) (answer : Answer) → w.last < n → Has (record { number = n; ask = ask; answer = answer }) ts → ⊥
-    new_silent n ask answer new has = let small = i.told_low _ has in omega (arith, small, new)
+    new_silent n ask answer new has = let small = i.sent_low _ has in omega (arith, small, new)
 
     new_unsent : (n : ℕ) (ask : Ask) (answer : Answer) → w.last < n → IsSent fs ts n ask answer → ⊥
     new_unsent n ask answer new (inl has) = new_silent n ask answer new has
@@ -485,7 +485,7 @@ module _ (first : World) (modem : List ℕ) where
       free = λ p e. let same : record { number = n; ask = ask } ≡ p = cc in subst (λ (q : Pending). kept_for name q.number first.start.kept.replies ≡ None) same (i.unused n is.new);
       floor = omega (arith, i.floor, is.new);
       above = λ p e. let at : n ≡ p.number = cc in omega (arith, i.floor, is.new, at);
-      told_low = λ t has. let small = i.told_low t has in omega (arith, small, is.new);
+      sent_low = λ t has. let small = i.sent_low t has in omega (arith, small, is.new);
       settled = λ p grant x has e. elim has [
         | inl same ↦ inl (ap (λ (q : Pending). Some q) same)
         | inr old ↦ elim (i.settled p grant x old e) [
@@ -547,7 +547,7 @@ module _ (first : World) (modem : List ℕ) where
           free = λ p e. absurd (cc e);
           floor = i.floor;
           above = λ p e. absurd (cc e);
-          told_low = i.told_low;
+          sent_low = i.sent_low;
           settled = λ p grant x has e. elim (i.settled p grant x has e) [
             | inl was ↦
                 let same : record { number = n; ask = ask } ≡ p = (let both = sym is ∙ was in cc) in
@@ -576,7 +576,7 @@ module _ (first : World) (modem : List ℕ) where
       free = i.free;
       floor = i.floor;
       above = i.above;
-      told_low = i.told_low;
+      sent_low = i.sent_low;
       settled = i.settled;
       stands = i.stands;
       in_window = λ q e. let same : p ≡ q = cc in subst (IsInWindow w) same is;
@@ -593,7 +593,7 @@ module _ (first : World) (modem : List ℕ) where
       free = i.free;
       floor = i.floor;
       above = i.above;
-      told_low = i.told_low;
+      sent_low = i.sent_low;
       settled = i.settled;
       stands = i.stands;
       in_window = λ q e. absurd (cc e);

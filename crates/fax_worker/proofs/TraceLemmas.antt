@@ -21,7 +21,7 @@ use Rattle.fax_worker.proofs.HandleLemmas.{other_taken, own_taken, own_untaken, 
 use Rattle.fax_worker.proofs.QueueLemmas.{calls_first}
 use Rattle.fax_worker.proofs.StandLemmas.{Inv, ReportWaits, Stands, answers, begins, dies, name, taken_parts, transmits}
 use Rattle.fax_worker.specs.Laws.{NumbersAreUsedOnce, ReportsWillBeAccepted, TracesAgree}
-use Rattle.fax_worker.specs.Trace.{Answered, Begins, CallsComeFirst, Dies, Event, Handles, Has, IsFirst, IsTrace, MayHandle, Told, Transmits, World, answer_to, begun, fed, queue_at, told, window, worker_at}
+use Rattle.fax_worker.specs.Trace.{Answered, Begins, CallsComeFirst, Dies, Event, Handles, Has, IsFirst, IsTrace, MayHandle, SentAnswer, Transmits, World, answer_to, begun, fed, queue_at, sent_answers, window, worker_at}
 use Rattle.fax_worker.specs.Worker as worker
 use Rattle.fax_worker.specs.Worker.{Held, Pending, Worker, with_answer, with_request}
 
@@ -36,7 +36,7 @@ accepted first (Answered modem n ask answer look ∷ earlier) (may, is) = accept
 accepted first (Transmits modem job page ∷ earlier) (may, is) = accepted first earlier is
 accepted first (Dies modem ∷ earlier) (may, is) = accepted first earlier is
 
--- so it was taken, and the queue is sound
+-- so the machine accepted it, and the queue is sound
 pub taken_all : (first : World) (trace : List Event) → IsTrace first trace → AreTaken first.start.queue (fed first.start trace)
 taken_all first trace is = are_taken first.start (fed first.start trace) (accepted first trace is)
 
@@ -48,7 +48,7 @@ calls_left : (m : Queue) (x : Step) → ((n : Queue) (r : Reply) → x ≡ Taken
 calls_left m (Taken n r) taken h = taken n r refl
 calls_left m (Refused e k) taken h = h
 
--- so they do after all that was taken
+-- so they do after all accepted requests
 calls_after : (first : World) (fs : List Fed) → IsFirst first → AreTaken first.start.queue fs → CallsComeFirst (queue_after first.start.queue fs)
 calls_after first [] at are = at.calls
 calls_after first (f ∷ fs) at (valid, on, are) =
@@ -67,7 +67,7 @@ at_both P false on off = off refl
 module _ (first : World) (modem : List ℕ) (works : first.has modem ≡ true) where
   -- what holds of the worker after these events
   abbrev pub Holds : List Event → Type 0
-  Holds trace = Inv first modem (worker_at first trace modem) (fed first.start trace) (begun trace modem) (told first.start trace (name first modem)) (window trace modem)
+  Holds trace = Inv first modem (worker_at first trace modem) (fed first.start trace) (begun trace modem) (sent_answers first.start trace (name first modem)) (window trace modem)
 
   -- a request that the queue handles keeps it
   handled : (s : Settings) (p : Post) (earlier : List Event) → IsFirst first → IsTrace first earlier → MayHandle first earlier p → Holds earlier → Holds (Handles s p ∷ earlier)
@@ -75,10 +75,10 @@ module _ (first : World) (modem : List ℕ) (works : first.has modem ≡ true) w
       let fs = fed first.start earlier in
       let f = under s p in
       let bs = begun earlier modem in
-      let ts = told first.start earlier (name first modem) in
+      let ts = sent_answers first.start earlier (name first modem) in
       let w = worker_at first earlier modem in
       let win = window earlier modem in
-      let answer : Told = record { number = p.number; ask = p.request.ask; answer = answer_to first.start fs f } in
+      let answer : SentAnswer = record { number = p.number; ask = p.request.ask; answer = answer_to first.start fs f } in
       let m = queue_after first.start.queue fs in
       let good = sound first earlier at is in
       let calls = calls_after first fs at (taken_all first earlier is) in
@@ -119,7 +119,7 @@ module _ (first : World) (modem : List ℕ) (works : first.has modem ≡ true) w
         free = λ p e. absurd (let none = new.answered in cc);
         floor = new.floor;
         above = λ p e. absurd (let none = new.answered in cc);
-        told_low = λ t has. absurd has;
+        sent_low = λ t has. absurd has;
         settled = λ p grant x has. absurd has;
         stands = subst (λ (o : Option Pending). Stands first modem first.start.queue [] [] o (first.worker modem).held) (sym new.answered) (λ h e. absurd (let none = new.holds in cc));
         in_window = λ p e. absurd (cc e);
@@ -134,7 +134,7 @@ module _ (first : World) (modem : List ℕ) (works : first.has modem ≡ true) w
       let w = worker_at first earlier modem in
       let fs = fed first.start earlier in
       let bs = begun earlier modem in
-      let ts = told first.start earlier (name first modem) in
+      let ts = sent_answers first.start earlier (name first modem) in
       at_both (λ b. Inv first modem (cond b (with_request n ask w) w) fs (cond b (record { number = n; ask = ask } ∷ bs) bs) ts (cond b None (window earlier modem))) (bytes_eq m modem)
       (λ on.
       let same = (bytes_decides m modem).0 on in
@@ -146,13 +146,13 @@ module _ (first : World) (modem : List ℕ) (works : first.has modem ≡ true) w
       let w = worker_at first earlier modem in
       let fs = fed first.start earlier in
       let bs = begun earlier modem in
-      let ts = told first.start earlier (name first modem) in
+      let ts = sent_answers first.start earlier (name first modem) in
       at_both (λ b. Inv first modem (cond b (with_answer ask answer look w) w) fs bs ts (cond b None (window earlier modem))) (bytes_eq m modem)
       (λ on.
       let same = (bytes_decides m modem).0 on in
       answers first modem w fs bs ts (window earlier modem) i n ask answer look
       (subst (λ (z : List ℕ). (worker_at first earlier z).unanswered ≡ Some (record { number = n; ask = ask })) same may.answered.unanswered)
-      (subst (λ (z : List ℕ). Has (record { number = n; ask = ask; answer = answer }) (told first.start earlier (first.worker z).client)) same may.sent)
+      (subst (λ (z : List ℕ). Has (record { number = n; ask = ask; answer = answer }) (sent_answers first.start earlier (first.worker z).client)) same may.sent)
       may.looked)
       (λ off. i)
   stands (Transmits m job page ∷ earlier) at (may, is) =
@@ -160,7 +160,7 @@ module _ (first : World) (modem : List ℕ) (works : first.has modem ≡ true) w
       let w = worker_at first earlier modem in
       let fs = fed first.start earlier in
       let bs = begun earlier modem in
-      let ts = told first.start earlier (name first modem) in
+      let ts = sent_answers first.start earlier (name first modem) in
       at_both (λ b. Inv first modem w fs bs ts (cond b (Some (record { job = job; page = page })) (window earlier modem))) (bytes_eq m modem)
       (λ on.
       let same = (bytes_decides m modem).0 on in
@@ -179,7 +179,7 @@ module _ (first : World) (modem : List ℕ) (works : first.has modem ≡ true) w
       let w = worker_at first earlier modem in
       let fs = fed first.start earlier in
       let bs = begun earlier modem in
-      let ts = told first.start earlier (name first modem) in
+      let ts = sent_answers first.start earlier (name first modem) in
       at_both (λ b. Inv first modem w fs bs ts (cond b None (window earlier modem))) (bytes_eq m modem)
       (λ on. dies first modem w fs bs ts (window earlier modem) i)
       (λ off. i)
@@ -190,11 +190,11 @@ pub traces_agree : TracesAgree
 traces_agree first trace at is = (
   λ modem h works none holds.
       let i = stands first modem works trace at is in
-      subst (λ (o : Option Pending). Stands first modem (queue_at first trace) (fed first.start trace) (told first.start trace (name first modem)) o (worker_at first trace modem).held) none i.stands h holds,
+      subst (λ (o : Option Pending). Stands first modem (queue_at first trace) (fed first.start trace) (sent_answers first.start trace (name first modem)) o (worker_at first trace modem).held) none i.stands h holds,
   λ modem n grant x answer works waits sent.
       let i = stands first modem works trace at is in
-      let it : ReportWaits first modem (queue_at first trace) (fed first.start trace) (told first.start trace (name first modem)) n grant x (worker_at first trace modem).held =
-      subst (λ (o : Option Pending). Stands first modem (queue_at first trace) (fed first.start trace) (told first.start trace (name first modem)) o (worker_at first trace modem).held) waits i.stands in
+      let it : ReportWaits first modem (queue_at first trace) (fed first.start trace) (sent_answers first.start trace (name first modem)) n grant x (worker_at first trace modem).held =
+      subst (λ (o : Option Pending). Stands first modem (queue_at first trace) (fed first.start trace) (sent_answers first.start trace (name first modem)) o (worker_at first trace modem).held) waits i.stands in
       it.accepted answer (inl sent),
 )
 
@@ -215,11 +215,11 @@ module _ (first : World) (trace : List Event) (at : IsFirst first) (is : IsTrace
 
   -- what waits after it was handled has accepted answers
   accepted_by : (gs : List Fed) (n grant : ℕ) (r : Report) → w.unanswered ≡ Some (record { number = n; ask = OnGrant grant r }) → p.number ≡ n → p.request.ask ≡ OnGrant grant r
-      → Inv first modem w gs (begun trace modem) (record { number = p.number; ask = p.request.ask; answer = sent } ∷ told first.start trace (name first modem)) (window trace modem)
+      → Inv first modem w gs (begun trace modem) (record { number = p.number; ask = p.request.ask; answer = sent } ∷ sent_answers first.start trace (name first modem)) (window trace modem)
       → (reply : Reply) × (sent ≡ Replied reply)
   accepted_by gs n grant r waits number asks i =
-      let us = told first.start trace (name first modem) in
-      let now : Told = record { number = p.number; ask = p.request.ask; answer = sent } in
+      let us = sent_answers first.start trace (name first modem) in
+      let now : SentAnswer = record { number = p.number; ask = p.request.ask; answer = sent } in
       let it : ReportWaits first modem (queue_after first.start.queue gs) gs (now ∷ us) n grant r w.held =
       subst (λ (o : Option Pending). Stands first modem (queue_after first.start.queue gs) gs (now ∷ us) o w.held) waits i.stands in
       let same : now ≡ record { number = n; ask = OnGrant grant r; answer = sent } =
@@ -233,7 +233,7 @@ reports_will_be_accepted first trace at is modem request grant r s p works waits
     let f = under s p in
     let w = worker_at first trace modem in
     let bs = begun trace modem in
-    let ts = told first.start trace (name first modem) in
+    let ts = sent_answers first.start trace (name first modem) in
     let win = window trace modem in
     let good = sound first trace at is in
     let calls = calls_after first fs at (taken_all first trace is) in

@@ -40,7 +40,7 @@ AreOf sessions [] = ⊤
 AreOf sessions (Handles s p ∷ earlier) = ((x : Session) × (Has x sessions × CameIn x s p)) × AreOf sessions earlier
 AreOf sessions (other ∷ earlier) = ⊥
 
--- whatever sessions follow one another, they leave what a trace of their requests leaves
+-- sessions that follow one another leave what a trace of their requests leaves
 abbrev pub SessionsAreTraces : Type 0
 SessionsAreTraces = (first last : Start) (sessions : List Session) → Follow first sessions last
     → (trace : List Event) × (AreOf sessions trace × (last ≡ end_after first (fed first trace)))

@@ -1,5 +1,5 @@
 -- What is proved of a worker and its queue.
-use Rattle.std.specs.Prelude.{◌≤◌, ◌+◌, ◌≡◌, ◌⊎◌, ℕ, true, List, [], length, Some, None}
+use Rattle.std.specs.Prelude.{◌≤◌, ◌+◌, ◌≡◌, ◌⊎◌, ℕ, true, List, [], ◌∷◌, length, Some, None}
 use Rattle.fax_job.specs.declared.job.Phase.TheVariants as phase
 use Rattle.fax_core.specs.declared.ask.Ask.TheVariants.{OnGrant}
 use Rattle.fax_core.specs.declared.grants.Grant.{Grant}
@@ -12,7 +12,7 @@ use Rattle.fax_core.specs.Sound.{IsJob, IsOpen}
 use Rattle.fax_core.specs.Settings.{Settings}
 use Rattle.fax_run.specs.Reading.{Post}
 use Rattle.fax_run.specs.Run.{under}
-use Rattle.fax_worker.specs.Trace.{Event, Has, IsFirst, IsTrace, World, answer_to, begun, fed, queue_at, told, worker_at}
+use Rattle.fax_worker.specs.Trace.{Event, Has, IsFirst, IsTrace, Transmits, World, answer_to, begun, fed, queue_at, sent_answers, worker_at}
 use Rattle.fax_worker.specs.Transmitted.{AreUndisturbed, deaths, pages_after, pages_of, sent_before, transmitted}
 use Rattle.fax_worker.specs.Worker.{Held, Pending}
 
@@ -36,7 +36,7 @@ WorkersAgree first trace = (modem : List ℕ) (h : Held) → first.has modem ≡
 abbrev pub ReportsAreAccepted : World → List Event → Type 0
 ReportsAreAccepted first trace = (modem : List ℕ) (number grant : ℕ) (r : Report) (answer : Answer) → first.has modem ≡ true
     → (worker_at first trace modem).unanswered ≡ Some (record { number = number; ask = OnGrant grant r })
-    → Has (record { number = number; ask = OnGrant grant r; answer = answer }) (told first.start trace (first.worker modem).client) → (reply : Reply) × (answer ≡ Replied reply)
+    → Has (record { number = number; ask = OnGrant grant r; answer = answer }) (sent_answers first.start trace (first.worker modem).client) → (reply : Reply) × (answer ≡ Replied reply)
 
 -- so it is in each trace
 abbrev pub TracesAgree : Type 0
@@ -62,6 +62,11 @@ NumbersAreUsedOnce = (first : World) (trace : List Event) → IsFirst first → 
     → (modem : List ℕ) (p q : Pending) → first.has modem ≡ true → Has p (begun trace modem) → Has q (begun trace modem) → p.number ≡ q.number → p ≡ q
 
 -- ---- at the receiver
+
+-- A page that is transmitted is the first of its job that isn't confirmed. So none that was confirmed, or came in as sent, is transmitted any more.
+abbrev pub TransmitsTheNext : Type 0
+TransmitsTheNext = (first : World) (earlier : List Event) (modem : List ℕ) (job page : ℕ) → IsFirst first → IsTrace first (Transmits modem job page ∷ earlier)
+    → (j : Job) × IsJob (queue_at first earlier) job j × (page ≡ length j.sent + 1)
 
 -- Each page of each job is transmitted once at most, and once more for each time that its driver died between a transmission of that page and its begun report.
 abbrev pub OnceAtTheReceiver : Type 0

@@ -73,19 +73,19 @@ answer_to start earlier f =
     if nat_lt (floors_after start earlier f.post.client) f.post.number then repeated start earlier f.post (new_answer start earlier f)
     else Denied GivenUp NoKeys
 
--- an answer that the queue sent: to this request, under this number
-pub record Told : Type 0 where
+-- an answer that the queue sent to a request
+pub record SentAnswer : Type 0 where
   pub number : ℕ
   pub ask : Ask
   pub answer : Answer
 
--- all answers that a client was sent
-abbrev pub told : Start → List Event → List ℕ → List Told
-told start [] client = []
-told start (Handles s p ∷ earlier) client =
-    if bytes_eq p.client client then record { number = p.number; ask = p.request.ask; answer = answer_to start (fed start earlier) (under s p) } ∷ told start earlier client
-    else told start earlier client
-told start (other ∷ earlier) client = told start earlier client
+-- all answers that the queue sent to a client
+abbrev pub sent_answers : Start → List Event → List ℕ → List SentAnswer
+sent_answers start [] client = []
+sent_answers start (Handles s p ∷ earlier) client =
+    if bytes_eq p.client client then record { number = p.number; ask = p.request.ask; answer = answer_to start (fed start earlier) (under s p) } ∷ sent_answers start earlier client
+    else sent_answers start earlier client
+sent_answers start (other ∷ earlier) client = sent_answers start earlier client
 
 -- ---- the workers' side
 
@@ -155,7 +155,7 @@ Shows m (Denied refusal keys) look = ShowsGrant m keys look
 pub record MayAnswer (first : World) (earlier : List Event) (modem : List ℕ) (number : ℕ) (ask : Ask) (answer : Answer) (look : Look) : Type 0 where
   pub works : first.has modem ≡ true
   pub answered : worker.IsAnswered (worker_at first earlier modem) number ask answer look (with_answer ask answer look (worker_at first earlier modem))
-  pub sent : Has (record { number = number; ask = ask; answer = answer }) (told first.start earlier (first.worker modem).client)
+  pub sent : Has (record { number = number; ask = ask; answer = answer }) (sent_answers first.start earlier (first.worker modem).client)
   pub looked : Shows (queue_at first earlier) answer look
 
 -- a page is transmitted where nothing is unanswered and a connected call was reported; it is the next page of the held grant, and the last one's report was begun

@@ -3,7 +3,7 @@
 //! Such a function changes nothing: its contract is the law. The statements are in `specs/Laws.antt` and `Join.antt`.
 
 ghost use Rattle.fax_worker.specs.Join.{AnswersAreReplies, SessionsAreTraces};
-ghost use Rattle.fax_worker.specs.Laws.{InOrderAtTheReceiver, NumbersAreUsedOnce, OnceAtTheReceiver, ReportsWillBeAccepted, TracesAgree};
+ghost use Rattle.fax_worker.specs.Laws.{InOrderAtTheReceiver, NumbersAreUsedOnce, OnceAtTheReceiver, ReportsWillBeAccepted, TracesAgree, TransmitsTheNext};
 
 /// Whenever nothing is unanswered, a worker that holds a grant and the queue agree about it: it is open, with the same
 /// call, and as many pages are confirmed as the worker has reported. Each report that a worker has begun is accepted
@@ -18,21 +18,22 @@ pub fn one_number_one_request()
     ensures { NumbersAreUsedOnce }
 {}
 
-/// Whatever requests and replies the network loses, doubles and reorders, each page of each job is transmitted once at
-/// most, and once more for each time that its driver died between a transmission of that page and its begun report.
+/// The network may lose, double and reorder requests and replies. Each page of each job is transmitted once at most, and
+/// once more for each time that its driver died between a transmission of that page and its begun report. A page that is
+/// transmitted is the first of its job that isn't confirmed.
 pub fn once_at_the_receiver()
-    ensures { OnceAtTheReceiver }
+    ensures once { OnceAtTheReceiver }
+    ensures next { TransmitsTheNext }
 {}
 
-/// Where no driver dies so, only workers report pages, and none reports a page before its transmission, the pages of a
-/// job are transmitted in order, each once, from the first that it had not sent before. Where the job is done these are
-/// all.
+/// If no driver dies so, only workers report pages, and none reports a page before its transmission, the pages of a job
+/// are transmitted in order, each once, from the first that it had not sent before. If the job is done these are all.
 pub fn in_order_at_the_receiver()
     ensures { InOrderAtTheReceiver }
 {}
 
-/// The queue of a trace is the server's. Each answer is, as bytes, the reply of the request's verdict. Whatever runs of
-/// the server follow one another, they leave what a trace of their requests leaves.
+/// The queue of a trace is the server's. Each answer is, as bytes, the reply of the request's verdict. Runs of the server
+/// that follow one another leave what a trace of their requests leaves.
 pub fn traces_are_histories()
     ensures replies { AnswersAreReplies }
     ensures sessions { SessionsAreTraces }
