@@ -11,6 +11,7 @@ use Rattle.fax_core.specs.declared.report.Report.TheVariants.{Page}
 use Rattle.fax_core.specs.Clock.{decided_at}
 use Rattle.fax_core.specs.Job.{Job}
 use Rattle.fax_core.specs.Queue.{Queue, grant_numbered}
+use Rattle.fax_core.specs.Reply.{Taken}
 use Rattle.fax_core.specs.Run.{Answer, left_by}
 use Rattle.fax_core.specs.Settings.{Settings}
 use Rattle.fax_core.specs.Sound.{IsJob, Sound}
@@ -21,7 +22,7 @@ use Rattle.fax_run.specs.Run.{is_taken, queue_after, step_of, under}
 use Rattle.fax_worker.proofs.StandLemmas.{Arrived, ReportWaits, Stands, name, taken_parts}
 use Rattle.fax_worker.proofs.TraceLemmas.{at_both, sound, stands, traces_agree}
 use Rattle.fax_worker.specs.Laws.{Agrees, OnceAtTheReceiver, TransmitsTheNext}
-use Rattle.fax_worker.specs.Trace.{Answered, Begins, Dies, Event, Handles, Has, IsFirst, IsTrace, MayAnswer, MayBegin, MayTransmit, PageOf, Transmits, World, fed, queue_at, sent_answers, window, worker_at}
+use Rattle.fax_worker.specs.Trace.{Answered, Begins, Dies, Event, Handles, Has, IsFirst, IsTrace, MayAnswer, MayBegin, MayTransmit, PageOf, ReportsIt, Transmits, World, fed, queue_at, sent_answers, window, worker_at}
 use Rattle.fax_worker.specs.Transmitted.{deaths, is_page, transmitted}
 use Rattle.fax_worker.specs.Worker.{Held, Look, Pending, next_page, with_answer, with_request}
 
@@ -54,7 +55,7 @@ handles_keep first s p earlier good =
     at_both (λ b. KeepsSent m (queue_after first.start.queue (cond b (f ∷ fs) fs))) (is_taken first.start fs f)
     (λ on.
     let it = taken_parts first.start fs f on in
-    step_keeps s m (left_by m (step_of m f)) (decided_at m.clock p.request.moment) p.request.ask it.reply good (it.taken ∙ ap (λ (q : Queue). Rattle.fax_core.specs.Reply.Taken q it.reply) (sym (ap (left_by m) it.taken))))
+    step_keeps s m (left_by m (step_of m f)) (decided_at m.clock p.request.moment) p.request.ask it.reply good (it.taken ∙ ap (λ (q : Queue). Taken q it.reply) (sym (ap (left_by m) it.taken))))
     (λ off a j is. record { job = j; there = is; more = []; begins = sym (append-nil j.sent) })
 
 -- ---- a page that may not be transmitted any more
@@ -141,7 +142,7 @@ module _ (first : World) (earlier : List Event) (at : IsFirst first) (is : IsTra
     | inl on ↦
         let same = (bytes_decides modem other).0 on in
         let it = (stands first other works earlier at is).in_window _ win in
-        let reports = subst (λ (o : Option PageOf). Rattle.fax_worker.specs.Trace.ReportsIt o ask) (ap (window earlier) same ∙ win) may.reports in
+        let reports = subst (λ (o : Option PageOf). ReportsIt o ask) (ap (window earlier) same ∙ win) may.reports in
         Reporting other works n reports.0 it.held
         (ap (λ b. (cond b (with_request n ask (worker_at first earlier other)) (worker_at first earlier other)).unanswered) on ∙ ap (λ (a : Ask). Some (record { number = n; ask = a })) reports.1)
         (ap (λ b. (cond b (with_request n ask (worker_at first earlier other)) (worker_at first earlier other)).held) on ∙ it.holds)

@@ -17,6 +17,7 @@ use Rattle.fax_core.specs.Reply.{Reply, Step, Taken, Refused}
 use Rattle.fax_core.specs.Run.{Answer, answer_of, left_by}
 use Rattle.fax_core.specs.Sound.{IsOpen, Sound}
 use Rattle.fax_run.specs.Run.{Fed, floors_after, is_of, is_taken, queue_after, step_of}
+use Rattle.fax_worker.proofs.DialLemmas.{KeepsDials, step_dials}
 use Rattle.fax_worker.proofs.QueueLemmas.{accepts, grant_stays}
 use Rattle.fax_worker.proofs.StandLemmas.{HoldsSo, Inv, IsPlain, IsSent, IsTaken, NextLeads, Stands, Stays, Waits, agrees_still, answer_above, answer_new, any_later, any_off, any_on, floors_below, floors_other, floors_up, is_accepted, kept_answer, name, new_plain, next_still, plain_next, plain_report, repeats_kept, step_leads, taken_from}
 use Rattle.fax_worker.specs.Laws.{Agrees}
@@ -33,9 +34,12 @@ differ a b other = elim (cases_Bool (bytes_eq a b)) [
 -- an accepted request that is no report on a modem's grant leaves its open grants
 pub stays_by : (modem : List ℕ) (m : Queue) (f : Fed) (n : Queue) (r : Reply) → Sound m → step_of m f ≡ Taken n r
     → ((a : ℕ) (g : Grant) (x : Report) → IsOpen m a g → g.modem ≡ modem → f.post.request.ask ≢ OnGrant a x) → Stays modem m (left_by m (step_of m f))
-stays_by modem m f n r sound taken none a g is of_modem =
-    let there = grant_stays f.settings m n (decided_at m.clock f.post.request.moment) f.post.request.ask r a g sound taken (λ x. none a g x is of_modem) is.0 in
-    subst (λ (x : Step). grant_numbered a (left_by m x) ≡ Some g) (sym taken) there
+stays_by modem m f n r sound taken none = (
+  λ a g is of_modem.
+      let there = grant_stays f.settings m n (decided_at m.clock f.post.request.moment) f.post.request.ask r a g sound taken (λ x. none a g x is of_modem) is.0 in
+      subst (λ (x : Step). grant_numbered a (left_by m x) ≡ Some g) (sym taken) there,
+  subst (λ (x : Step). KeepsDials m (left_by m x)) (sym taken) (step_dials f.settings m n (decided_at m.clock f.post.request.moment) f.post.request.ask r sound taken),
+)
 
 module _ (first : World) (modem : List ℕ) where
   abbrev c : List ℕ
@@ -273,7 +277,7 @@ module _ (first : World) (modem : List ℕ) where
         pub late_untaken : ((p : Pending) → w.unanswered ≡ Some p → p.number ≢ k) → Inv first modem w fs bs us win
         late_untaken other =
             with_told us us_low
-            (stands_still m m fs fs ts us w.unanswered w.held (λ a g is of_modem. is.0) (λ p e. (refl, λ a x. (other_sent p.number (other p e) a x, λ kept. kept))) i.stands)
+            (stands_still m m fs fs ts us w.unanswered w.held ((λ a g is of_modem. is.0), (λ x j is. (j, is, refl))) (λ p e. (refl, λ a x. (other_sent p.number (other p e) a x, λ kept. kept))) i.stands)
 
         module _ (is : w.unanswered ≡ Some (record { number = k; ask = ask })) where
           above : nat_lt (floors_after first.start fs f.post.client) k ≡ true

@@ -18,7 +18,7 @@ use Rattle.fax_run.specs.Laws.{AreAccepted, left_of}
 use Rattle.fax_run.specs.Reading.{Faulty, IsReading, Post, Posts, Reading, Sees}
 use Rattle.fax_run.specs.Run.{Fed, IsRun, Start, end_after, end_of, floors_after, is_new, is_of, is_taken, kept_after, queue_after, reply_to, step_of, taken, takes, under}
 use Rattle.fax_run.specs.Sessions.{Failed, IsSession, LeavesOff, MayTake, Nothing, Session, Unanswered, UnderWay, WasUnderWay}
-use Rattle.fax_run.specs.Verdict.{asked_above, decided_new, denied, is_too_high, new_asked, raised, repeated as repeated_entry, reply_of, step_reply, stepped, taken_once, verdict, without_given}
+use Rattle.fax_run.specs.Verdict.{Repeated, asked_above, decided_new, denied, is_too_high, new_asked, raised, repeated as repeated_entry, reply_of, step_reply, stepped, taken_once, verdict, without_given}
 use Rattle.fax_run.specs.declared.arrival.Arrival.{Arrival}
 use Rattle.fax_run.proofs.LedgerLemmas.{floors_rise, given_finds, given_none}
 use Rattle.fax_run.proofs.RunLemmas.{behind, kept_floors, new_is_free, raised_step}
@@ -102,7 +102,7 @@ kept_newest start earlier f p on its =
     )
   where
     by : (b : Bool) → takes (its_step start earlier f) ≡ true → is_too_high f.post.number f.post.request.ask ≡ false
-        → reply_of (cond b (Rattle.fax_run.specs.Verdict.Repeated (kept_response (step_reply (its_step start earlier f)).status (step_reply (its_step start earlier f)).body)) (denied NumberReused))
+        → reply_of (cond b (Repeated (kept_response (step_reply (its_step start earlier f)).status (step_reply (its_step start earlier f)).body)) (denied NumberReused))
         ≡ response_of (cond b (new_answer start earlier f) (Denied NumberReused NoKeys))
     by true takes_it low =
         whole (its_step start earlier f) takes_it ∙ step_sent (its_step start earlier f)

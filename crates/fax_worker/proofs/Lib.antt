@@ -1,5 +1,6 @@
 pub mod RowsWorker
 pub mod RowsTraces
+mod DialLemmas
 mod QueueLemmas
 mod StandLemmas
 mod HandleLemmas

@@ -23,7 +23,7 @@ use Rattle.fax_core.proofs.PageLemmas.{step_keeps}
 use Rattle.fax_core.proofs.RangeLemmas.{joined}
 use Rattle.fax_run.specs.Counts.{brought_with, brings, came_in, no_counters, takes_in}
 use Rattle.fax_run.specs.Reading.{Post}
-use Rattle.fax_run.specs.Run.{Fed, is_of, is_taken, queue_after, step_of, under}
+use Rattle.fax_run.specs.Run.{Fed, floors_after, is_of, is_taken, queue_after, under}
 use Rattle.fax_worker.proofs.BoundLemmas.{agrees_of, good, job_of, one_modem, report_of}
 use Rattle.fax_worker.proofs.JobLemmas.{Is_new, IsWhole, Made, NoPageOf, Paged, Was, not_both, step_brings, step_made, there_brings}
 use Rattle.fax_worker.proofs.StandLemmas.{IsTaken, any_later, any_off, any_on, is_accepted, name, new_unused, taken_parts}
@@ -371,7 +371,7 @@ module _ (first : World) (earlier : List Event) (at : IsFirst first) (is : IsTra
             | inl was ↦ was
             | inr rest ↦ elim rest [
               | inl on ↦ absurd (not_both _ unused on)
-              | inr given ↦ absurd (let above = subst (λ (x : List ℕ). Rattle.fax_run.specs.Run.floors_after first.start fs x < p.number) its it.above in omega (arith, given, above))
+              | inr given ↦ absurd (let above = subst (λ (x : List ℕ). floors_after first.start fs x < p.number) its it.above in omega (arith, given, above))
             ]
           ] in
           known ∙ ap (λ (x : Ask). Some (record { number = p.number; ask = x })) asks

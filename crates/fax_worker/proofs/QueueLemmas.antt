@@ -13,24 +13,25 @@ use Rattle.fax_core.specs.declared.report.Ending.TheVariants.{Done, Retry, Fail}
 use Rattle.fax_core.specs.declared.report.Outcome.{Outcome}
 use Rattle.fax_core.specs.declared.report.Report.{Report}
 use Rattle.fax_core.specs.declared.report.Report.TheVariants as report
-use Rattle.fax_core.specs.Ageing.{aged}
+use Rattle.fax_core.specs.Ageing.{aged, aged_job}
 use Rattle.fax_core.specs.declared.ask.Ask.{Ask}
 use Rattle.fax_core.specs.declared.ask.Ask.TheVariants.{Submission, Bring, OnJob, Mark, Next, OnGrant, GiveUp}
 use Rattle.fax_core.specs.declared.ask.JobAsk.{JobAsk}
 use Rattle.fax_core.specs.Decisions.{JobAndGrant, after_call, call, ended, grant_reported, granted, is_connected, is_done, is_empty, job_asked, outcome, page, page_of, submit}
 use Rattle.fax_core.specs.Import.{bring}
 use Rattle.fax_core.specs.Job.{Job}
-use Rattle.fax_core.specs.Machine.{act, brought_in, changed, given_to, handed, held_by, on_both, on_grant, on_job, report_reply, step, submitted, with_both, with_grant, with_job, with_mark, with_new_grant, with_new_job}
+use Rattle.fax_core.specs.Machine.{act, brought_in, changed, given_to, handed, held_by, on_both, on_grant, on_job, report_reply, step, submitted, with_both, with_grant, with_job, with_mark, with_new_grant, with_new_job, dial_of}
 use Rattle.fax_core.specs.Machine as machine
 use Rattle.fax_core.specs.Queue.{Queue, grant_numbered, job_numbered}
 use Rattle.fax_core.specs.Reply.{Given, Handed, Marked, NoKeys, Reply, Taken, Refused}
 use Rattle.fax_core.specs.Settings.{Rule, Settings}
-use Rattle.fax_core.specs.Sound.{FitsGrant, IsOpen, Sound}
-use Rattle.fax_core.proofs.DecisionLemmas.{not_refused, ok_same}
-use Rattle.fax_core.proofs.KeepLemmas.{Grants, found_new, numbered_grant}
+use Rattle.fax_core.specs.Sound.{FitsGrant, IsJob, IsOpen, Sound}
+use Rattle.fax_core.proofs.DecisionLemmas.{not_refused, ok_same, reported_in}
+use Rattle.fax_core.proofs.KeepLemmas.{Grants, found_new, numbered_grant, numbered_job, same_job}
 use Rattle.fax_core.proofs.PageLemmas.{Reported, on_grant_is, tail_is}
 use Rattle.fax_core.proofs.PlaceLemmas.{either, placed, placed_here, placed_other, stays}
 use Rattle.fax_core.proofs.StepLemmas.{Best_to, GivenTo, None_to, aged_sound, given_grants, given_is, taken_same}
+use Rattle.fax_worker.proofs.DialLemmas.{aged_dial, aged_there, report_dial}
 use Rattle.fax_worker.specs.Laws.{Agrees}
 use Rattle.fax_worker.specs.Trace.{CallsComeFirst}
 use Rattle.fax_worker.specs.Worker.{Held, after_report, held_of, next_page}
@@ -213,6 +214,9 @@ given_agrees s m n t modem h sound (Best_to j b none same told) =
       last_page = refl;
       call = refl;
       pages = refl;
+      job = made.job;
+      there = subst (λ (q : Queue). IsJob q j.number made.job) same (placed_here (λ (z : Job). z.number) j.number made.job j m.jobs b.goes.there refl);
+      dial = sym (ap dial_of (placed_here (λ (z : Job). z.number) j.number made.job j m.jobs b.goes.there refl));
     } in
     subst (λ (x : Handed). Agrees n modem (held_of x None 0)) is all
 
@@ -304,10 +308,10 @@ decides (report.Outcome o) delay t m modem h j a fits (done, dialed, pages) =
     (record { job = ended j.left o j (delay g.call) t; grant = record g { is_open = false } }, takes_outcome o j g (delay g.call) t a.open_grant.1 (dialed ∙ ap is_some (sym a.call)) (pages ∙ sym a.pages) none)
 
 -- what is held after a report that the queue accepted agrees with the queue
-agrees_after : (x : Report) (n : Queue) (modem : List ℕ) (h k : Held) (g : Grant) → grant_numbered h.grant n ≡ Some (changed_by x g) → g.is_open ≡ true
+agrees_after : (x : Report) (n : Queue) (modem : List ℕ) (h k : Held) (g : Grant) (j : Job) → grant_numbered h.grant n ≡ Some (changed_by x g) → g.is_open ≡ true
     → g.modem ≡ modem → g.job ≡ h.job → g.first_page ≡ h.first_page → g.last_page ≡ h.last_page → g.call ≡ h.call → g.confirmed ≡ h.pages
-    → after_report x h ≡ Some k → Agrees n modem k
-agrees_after (report.Call c) n modem h k g there is of_modem of_job first_page last_page call pages e =
+    → IsJob n h.job j → j.dial ≡ h.dial → after_report x h ≡ Some k → Agrees n modem k
+agrees_after (report.Call c) n modem h k g j there is of_modem of_job first_page last_page call pages at dial e =
     let same : record h { call = Some c } ≡ k = cc in
     subst (Agrees n modem) same (record {
       grant = changed_by (report.Call c) g;
@@ -318,8 +322,11 @@ agrees_after (report.Call c) n modem h k g there is of_modem of_job first_page l
       last_page = last_page;
       call = refl;
       pages = pages;
+      job = j;
+      there = at;
+      dial = dial;
     })
-agrees_after (report.Page p) n modem h k g there is of_modem of_job first_page last_page call pages e =
+agrees_after (report.Page p) n modem h k g j there is of_modem of_job first_page last_page call pages at dial e =
     let same : record h { pages = h.pages + 1 } ≡ k = cc in
     subst (Agrees n modem) same (record {
       grant = changed_by (report.Page p) g;
@@ -330,8 +337,11 @@ agrees_after (report.Page p) n modem h k g there is of_modem of_job first_page l
       last_page = last_page;
       call = call;
       pages = ap (λ (i : ℕ). i + 1) pages;
+      job = j;
+      there = at;
+      dial = dial;
     })
-agrees_after (report.Outcome o) n modem h k g there is of_modem of_job first_page last_page call pages e = cc
+agrees_after (report.Outcome o) n modem h k g j there is of_modem of_job first_page last_page call pages at dial e = cc
 
 -- what an accepted report leaves: the queue agrees with what is held then
 pub record Accepts (s : Settings) (m : Queue) (t : ℕ) (modem : List ℕ) (h : Held) (x : Report) : Type 0 where
@@ -351,6 +361,10 @@ accepts s m t modem h x sound a fits =
     let becomes = grant_after x s.delay t j g b made.1 in
     let number : b.grant.number ≡ h.grant = ap (λ (z : Grant). z.number) becomes ∙ number_after x g ∙ numbered_grant m h.grant g a.open_grant.0 in
     let there : grant_numbered h.grant after ≡ Some b.grant = placed_here (λ (z : Grant). z.number) h.grant b.grant g m.grants a.open_grant.0 number in
+    let job_number : b.job.number ≡ g.job = (reported_in x s.delay t j g b made.1).number ∙ numbered_job (aged t m) g.job j held.1 in
+    let job_there : IsJob after h.job b.job = subst (λ (i : ℕ). IsJob after i b.job) a.of_job (placed_here (λ (z : Job). z.number) g.job b.job j (aged t m).jobs held.1 job_number) in
+    let one : j ≡ aged_job t a.job = same_job (aged t m) h.job j (aged_job t a.job) (subst (λ (i : ℕ). IsJob (aged t m) i j) a.of_job held.1) (aged_there t m h.job a.job a.there) in
+    let dials : b.job.dial ≡ h.dial = report_dial x s.delay t j g b made.1 ∙ ap (λ (z : Job). z.dial) one ∙ aged_dial t a.job ∙ a.dial in
     record {
       after = after;
       reply = report_reply s t x after b;
@@ -358,5 +372,5 @@ accepts s m t modem h x sound a fits =
           ap (on_grant s (aged t m) t x) a.open_grant.0
           ∙ ap (on_both s (aged t m) t x g) held.1
           ∙ ap (machine.reported (aged t m) (report_reply s t x) j) made.1;
-      agrees = λ k e. agrees_after x after modem h k g (there ∙ ap (λ (z : Grant). Some z) becomes) a.open_grant.1 a.of_modem a.of_job a.first_page a.last_page a.call a.pages e;
+      agrees = λ k e. agrees_after x after modem h k g b.job (there ∙ ap (λ (z : Grant). Some z) becomes) a.open_grant.1 a.of_modem a.of_job a.first_page a.last_page a.call a.pages job_there dials e;
     }

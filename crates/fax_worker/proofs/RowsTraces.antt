@@ -12,6 +12,7 @@ use Rattle.fax_core.specs.Ask.{IsLawfulAsk}
 use Rattle.fax_core.specs.declared.ask.Ask.{Ask}
 use Rattle.fax_core.specs.declared.ask.Ask.TheVariants.{Bring, GiveUp, Mark, Next, OnGrant, Submission}
 use Rattle.fax_core.specs.declared.report.Ending.TheVariants.{Done}
+use Rattle.fax_core.specs.declared.report.Report.{Report}
 use Rattle.fax_core.specs.declared.report.Report.TheVariants.{Call, Outcome, Page}
 use Rattle.fax_core.specs.declared.grants.Grant.{Grant}
 use Rattle.fax_core.specs.Queue.{Queue, grant_numbered}
@@ -120,7 +121,7 @@ may_send earlier number ask moment valid has = record {
 }
 
 -- so may what another client asks for and is no report
-may_ask : (earlier : List Event) (number : ℕ) (ask : Ask) (moment : ℕ) → IsLawfulAsk ask → ((n : ℕ) (r : Rattle.fax_core.specs.declared.report.Report.Report) → ask ≡ OnGrant n r → ⊥)
+may_ask : (earlier : List Event) (number : ℕ) (ask : Ask) (moment : ℕ) → IsLawfulAsk ask → ((n : ℕ) (r : Report) → ask ≡ OnGrant n r → ⊥)
     → MayHandle world earlier (record { client = desk; number = number; said = codes "desk"; request = ask at moment })
 may_ask earlier number ask moment valid none = record {
   valid = valid;

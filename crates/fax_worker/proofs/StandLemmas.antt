@@ -23,8 +23,10 @@ use Rattle.fax_core.specs.Sound.{IsOpen, Sound}
 use Rattle.fax_core.proofs.RefusalLemmas.{step_held}
 use Rattle.fax_run.specs.Reading.{Post}
 use Rattle.fax_run.specs.Run.{Fed, Start, floors_after, floors_by, is_new, is_of, is_taken, queue_after, step_of, takes, under}
+use Rattle.fax_run.specs.Verdict as verdict
 use Rattle.fax_run.specs.Verdict.{is_too_high, raised, raised_ask}
 use Rattle.fax_worker.proofs.QueueLemmas.{FitsHeld, step_given}
+use Rattle.fax_worker.proofs.DialLemmas.{KeepsDials, unaged_there}
 use Rattle.fax_worker.specs.Laws.{Agrees}
 use Rattle.fax_worker.specs.Trace.{CallsComeFirst, Has, PageOf, Shows, SentAnswer, World, answer_to, new_answer, repeated}
 use Rattle.fax_worker.specs.Worker as worker
@@ -174,7 +176,7 @@ repeats_kept start (f ∷ fs) p new any same = elim (cases_Bool (is_of p.client 
 pub new_plain : (start : Start) (fs : List Fed) (f : Fed) → IsPlain f.post.request.ask → new_answer start fs f ≡ answer_of (step_of (queue_after start.queue fs) f)
 new_plain start fs f plain =
     let p = f.post in
-    let decided : Answer = answer_of (step_of (queue_after start.queue fs) (under f.settings (Rattle.fax_run.specs.Verdict.raised (floors_after start fs p.client) p))) in
+    let decided : Answer = answer_of (step_of (queue_after start.queue fs) (under f.settings (verdict.raised (floors_after start fs p.client) p))) in
     ap (λ b. cond b (Denied FloorHigh NoKeys) decided) (plain.low p.number)
     ∙ ap (λ (a : Ask). answer_of (step_of (queue_after start.queue fs) (under f.settings (record p { request = record p.request { ask = a } })))) (plain.raised (floors_after start fs p.client))
 
@@ -190,13 +192,16 @@ answer_new start fs f above plain unused = answer_above start fs f above ∙ rep
 
 -- ---- agreement stays
 
--- the open grants of a modem stay as they are
+-- the open grants of a modem stay as they are, and each job dials the same number
 abbrev pub Stays : List ℕ → Queue → Queue → Type 0
-Stays modem m n = (a : ℕ) (g : Grant) → IsOpen m a g → g.modem ≡ modem → grant_numbered a n ≡ Some g
+Stays modem m n = ((a : ℕ) (g : Grant) → IsOpen m a g → g.modem ≡ modem → grant_numbered a n ≡ Some g) × KeepsDials m n
 
 -- so agreement stays
 pub agrees_still : (modem : List ℕ) (m n : Queue) (h : Held) → Stays modem m n → Agrees m modem h → Agrees n modem h
-agrees_still modem m n h stays a = record {
+agrees_still modem m n h (stays, dials) a = record {
+  job = (dials h.job a.job a.there).0;
+  there = (dials h.job a.job a.there).1;
+  dial = (dials h.job a.job a.there).2 ∙ a.dial;
   grant = a.grant;
   open_grant = (stays h.grant a.grant a.open_grant a.of_modem, a.open_grant.1);
   of_modem = a.of_modem;
@@ -242,6 +247,7 @@ none_is (Some c) e = cc
 keys_lead : (s : Settings) (m : Queue) (t : ℕ) (modem : List ℕ) (e : Refusal) (k : Keys) → Sound m → CallsComeFirst m → step s m t (Next modem) ≡ Refused e k → KeysLead m modem k
 keys_lead s m t modem e (HeldGrant called h) sound calls is =
     let it = step_held s m t modem e called h sound is in
+    let old = unaged_there t m h.job it.job it.there in
     let g = it.grant in (
       record { call = g.call; pages = g.confirmed },
       record {
@@ -253,6 +259,9 @@ keys_lead s m t modem e (HeldGrant called h) sound calls is =
         last_page = it.last_page;
         call = refl;
         pages = refl;
+        job = old.0;
+        there = old.1;
+        dial = old.2 ∙ sym it.dial;
       },
       λ off.
           let none = none_is g.call (it.call ∙ off) in
@@ -499,6 +508,10 @@ module _ (first : World) (modem : List ℕ) where
 
     -- ---- it gets an answer
 
+    -- a look that shows what is known
+    look_is : (g : Grant) (seen : Look) → g.call ≡ seen.call → g.confirmed ≡ seen.pages → Path Look (record { call = g.call; pages = g.confirmed }) seen
+    look_is g seen call pages = ap (λ (c : Option Call). record { call = c; pages = g.confirmed }) call ∙ ap (λ (n : ℕ). record { call = seen.call; pages = n }) pages
+
     -- what `next` leaves agrees
     next_lands : (answer : Answer) (look : Look) (held : Option Held) (asked : List ℕ) → Shows m answer look → NextLeads m modem answer → HoldsSo m (held_after (Next asked) answer look held)
     next_lands (Replied (Given h)) look held asked shows leads k e = let same : held_of h None 0 ≡ k = cc in subst (Agrees m modem) same leads
@@ -509,7 +522,7 @@ module _ (first : World) (modem : List ℕ) where
     next_lands (Denied refusal (HeldGrant true h)) look held asked (g, there, is) (seen, a, none) k e =
         let same : held_of h look.call look.pages ≡ k = cc in
         let it : a.grant ≡ g = (let both = sym a.open_grant.0 ∙ there in cc) in
-        let shown : look ≡ seen = is ∙ ap (λ (z : Grant). record { call = z.call; pages = z.confirmed }) (sym it) ∙ ap (λ (c : Option Call). record { call = c; pages = a.grant.confirmed }) a.call ∙ ap (λ (n : ℕ). record { call = seen.call; pages = n }) a.pages in
+        let shown : look ≡ seen = is ∙ ap (λ (z : Grant). record { call = z.call; pages = z.confirmed }) (sym it) ∙ look_is a.grant seen a.call a.pages in
         subst (Agrees m modem) same (subst (λ (l : Look). Agrees m modem (held_of h l.call l.pages)) (sym shown) a)
     next_lands (Denied refusal other) look held asked shows leads k e = absurd cc
 

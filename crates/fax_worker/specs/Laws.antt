@@ -16,7 +16,7 @@ use Rattle.fax_worker.specs.Trace.{Event, Has, IsFirst, IsTrace, Transmits, Worl
 use Rattle.fax_worker.specs.Transmitted.{AreUndisturbed, deaths, pages_after, pages_of, sent_before, transmitted}
 use Rattle.fax_worker.specs.Worker.{Held, Pending}
 
--- the grant that a worker holds is its modem's open grant, and the queue has the same call and as many pages confirmed
+-- the grant that a worker holds is its modem's open grant, of the job with that number to dial; the queue has the same call and as many pages confirmed
 pub record Agrees (m : Queue) (modem : List ℕ) (h : Held) : Type 0 where
   pub grant : Grant
   pub open_grant : IsOpen m h.grant grant
@@ -26,6 +26,9 @@ pub record Agrees (m : Queue) (modem : List ℕ) (h : Held) : Type 0 where
   pub last_page : grant.last_page ≡ h.last_page
   pub call : grant.call ≡ h.call
   pub pages : grant.confirmed ≡ h.pages
+  pub job : Job
+  pub there : IsJob m h.job job
+  pub dial : job.dial ≡ h.dial
 
 -- whenever nothing is unanswered, a worker that holds a grant and the queue agree about it
 abbrev pub WorkersAgree : World → List Event → Type 0

@@ -39,7 +39,7 @@ pub data Event : Type 0 where
   Answered : (modem : List ℕ) (number : ℕ) (ask : Ask) (answer : Answer) (look : Look) → Event
   -- the receiver confirms a page
   Transmits : (modem : List ℕ) (job page : ℕ) → Event
-  -- the modem's driver dies, or its journal stays and another driver goes on
+  -- the modem's driver dies; its journal stays, and another driver goes on
   Dies : (modem : List ℕ) → Event
 
 -- ---- the queue's side
@@ -122,7 +122,7 @@ abbrev pub Has : {A : Type 0} → A → List A → Type 0
 Has x [] = ⊥
 Has x (y ∷ ys) = (y ≡ x) ⊎ Has x ys
 
--- A request may be valid. Under a worker's name comes only what it has begun, and only it reports on its modem's open grant.
+-- The request is valid. Under a worker's name comes only what it has begun, as it sends it. On the open grant of its modem only the worker reports.
 pub record MayHandle (first : World) (earlier : List Event) (p : Post) : Type 0 where
   pub valid : IsLawfulAsk p.request.ask
   pub own : (modem : List ℕ) → first.has modem ≡ true → p.client ≡ (first.worker modem).client
@@ -142,7 +142,7 @@ pub record MayBegin (first : World) (earlier : List Event) (modem : List ℕ) (n
   pub begins : worker.Begins modem (worker_at first earlier modem) action number ask (with_request number ask (worker_at first earlier modem))
   pub reports : ReportsIt (window earlier modem) ask
 
--- a look shows what the queue has of the grant
+-- what a worker sees is what the queue has for the grant
 abbrev pub ShowsGrant : Queue → Keys → Look → Type 0
 ShowsGrant m (HeldGrant true h) look = (g : Grant) × (grant_numbered h.grant m ≡ Some g) × (look ≡ record { call = g.call; pages = g.confirmed })
 ShowsGrant m other look = ⊤
@@ -158,7 +158,7 @@ pub record MayAnswer (first : World) (earlier : List Event) (modem : List ℕ) (
   pub sent : Has (record { number = number; ask = ask; answer = answer }) (sent_answers first.start earlier (first.worker modem).client)
   pub looked : Shows (queue_at first earlier) answer look
 
--- a page is transmitted where nothing is unanswered and a connected call was reported; it is the next page of the held grant, and the last one's report was begun
+-- a page is transmitted when nothing is unanswered and a connected call was reported; it is the next page of the held grant, and no other page waits for its report
 pub record MayTransmit (first : World) (earlier : List Event) (modem : List ℕ) (job page : ℕ) : Type 0 where
   pub works : first.has modem ≡ true
   pub answered : (worker_at first earlier modem).unanswered ≡ None

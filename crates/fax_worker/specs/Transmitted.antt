@@ -52,7 +52,7 @@ sent_or (Some j) brought = length j.sent
 abbrev pub sent_before : World → List Fed → ℕ → ℕ
 sent_before first fs job = sent_or (job_numbered job first.start.queue) (brought_with first.start.queue job fs).npages
 
--- Only workers report pages, each page after its transmission. No driver dies between a transmission and its report. A job that comes in as done has all its pages sent.
+-- On open grants only workers report pages, each after its transmission. No driver dies between a transmission and its report. A job that comes in as done has all its pages sent.
 abbrev pub IsUndisturbed : World → List Event → Event → Type 0
 IsUndisturbed first earlier (Handles s p) =
     ((n page : ℕ) (g : Grant) → p.request.ask ≡ OnGrant n (report.Page page) → IsOpen (queue_at first earlier) n g → first.has g.modem ≡ true)

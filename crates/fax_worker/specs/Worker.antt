@@ -60,8 +60,8 @@ next_page h = h.first_page + h.pages
 abbrev pub outcome_of : Held → Ending → List ℕ → Outcome
 outcome_of h ending reason = record { dialed = is_some h.call; pages = h.pages; ending = ending; reason = reason }
 
--- The action may come now, and this is its request. A modem with a grant doesn't ask for work. A call comes once, and a page on a connected call while one is left.
--- An outcome may come at any time, but Done only when no page is left.
+-- The action may come now, and this is its request. A worker that holds a grant doesn't ask for work. A call is reported once, and a page on a connected call while one is left.
+-- An outcome may be reported at any time, but Done only when no page is left.
 abbrev pub IsRequest : List ℕ → ℕ → Action → Option Held → Ask → Type 0
 IsRequest modem last AsksForWork None ask = ask ≡ Next modem
 IsRequest modem last (ReportsCall call) (Some h) ask = (h.call ≡ None) × (ask ≡ OnGrant h.grant (report.Call call))
@@ -83,8 +83,8 @@ pub record Begins (modem : List ℕ) (w : Worker) (action : Action) (number : �
 
 -- ---- a request is answered
 
--- What the queue shows of a grant. A worker whose `next` is refused with `called` true has lost its journal: it looks up the call and the number of pages
--- confirmed on the grant. `GET /modems` will show both.
+-- What a worker sees of its modem's grant. Where `next` is refused with `called` true, its journal was lost. It then needs to see, after that refusal, the call
+-- and the number of pages that the queue has for the grant. No request shows them yet.
 pub record Look : Type 0 where
   pub call : Option Call
   pub pages : ℕ

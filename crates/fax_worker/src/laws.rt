@@ -6,8 +6,8 @@ ghost use Rattle.fax_worker.specs.Join.{AnswersAreReplies, SessionsAreTraces};
 ghost use Rattle.fax_worker.specs.Laws.{InOrderAtTheReceiver, NumbersAreUsedOnce, OnceAtTheReceiver, ReportsWillBeAccepted, TracesAgree, TransmitsTheNext};
 
 /// Whenever nothing is unanswered, a worker that holds a grant and the queue agree about it: it is open, with the same
-/// call, and as many pages are confirmed as the worker has reported. Each report that a worker has begun is accepted
-/// whenever it reaches the queue.
+/// job, number to dial, pages and call, and as many pages are confirmed as the worker has reported. Each report that a
+/// worker has begun is accepted whenever it reaches the queue.
 pub fn agrees()
     ensures agree { TracesAgree }
     ensures accepted { ReportsWillBeAccepted }
