@@ -84,6 +84,17 @@ def helps(folder):
 
 
 @check
+def version(folder):
+    """The version names a commit, or zeros, and the kit."""
+    place = Place(folder)
+    for words in ["--version"], ["-V"]:
+        with attempt(words):
+            out, err = place.run(0, *words)
+            expect(re.fullmatch(rb"faxqd 0 \(commit [0-9a-f]{10}, rattle-kit-\w+\)\n", out), f"it is {out!r}")
+            expect_same(err, b"", "standard error")
+
+
+@check
 def help_fits(folder):
     """Each help fits a terminal, and ends with one example of its command."""
     place = Place(folder)

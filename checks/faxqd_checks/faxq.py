@@ -1,6 +1,7 @@
 """`examples/faxq` against `serve`: over examples/bad-line.py each command is done once; killed before it is answered it goes
 on, and makes one job; replies that aren't the queue's own say nothing of a request, and those that have to be corrected are reported
-at once; `why` says why a job isn't sent; `again` hands in the pages that weren't confirmed."""
+at once; `why` says why a job isn't sent; `again` hands in the pages that weren't confirmed; `modems` prints who holds what; and
+a client that was retired gets nothing accepted."""
 import json
 import os
 import pathlib
@@ -373,7 +374,9 @@ def faults(folder):
     for words, wanted in ((("submit", "5550111", "--pages", "1", "-i", "a\nnumber:1"), "jobtag has a line feed"),
                           (("submit", "5550111"), "--pages"), (("alter", "1", "priority"), "TAG=VALUE"),
                           (("submit", "5550111", folder / "none.tif"), "No such file"), (("submit", "5", faxq_file()), "isn't a TIFF"),
-                          (("submit", "5", "--pages", "1", "-a", "soon"), "is no time"), (("kill", "0"), "no number of a job")):
+                          (("submit", "5", "--pages", "1", "-a", "soon"), "is no time"), (("kill", "0"), "no number of a job"),
+                          (("modems", "up"), "wants a modem"), (("retire", "a b"), "no client's name"),
+                          (("retire", "desk"), "your own name")):
         with attempt(words):
             desk.fails(wanted, 2, f"http://127.0.0.1:{port}", *words)
     desk.fails("is no address", 2, "127.0.0.1:4559", *FAX)
@@ -499,3 +502,122 @@ def again(queue, folder):
     queue.why(6, "was sent: all 2 pages were confirmed")
     queue.fails("all 2 pages of job 6 were confirmed", 1, "again", "6")
     expect(queue.desk.says(queue.url, "wait", "6")[0] == 0, "wait for a done job")
+
+
+# ---- modems, and clients that are gone
+
+HELD = "grant 1 job 1 number 888 pages 1-3 call"
+NO_MODEMS = [  # texts that aren't a list of modems
+    "ttyS0", "ttyS0:up", "ttyS0:up\nttyS1", "ttyS0:up\n\n", "\n", "ttyS0:up\r\n", "ttyS0:busy\n", "ttyS0:gone\n", "ttyS0:up \n",
+    " ttyS0:up\n", ":up\n", "tty S0:up\n", f"{33 * 'm'}:up\n", "ttyS0:up grant 1\n", "ttyS0:UP\n", "ttyS0:up\x1b[2J\n",
+    f"ttyS0:up {HELD} lost confirmed 0\n", f"ttyS0:up {HELD} none confirmed -1\n", f"ttyS0:up {HELD} none confirmed 00\n",
+    f"ttyS0:up {HELD} none confirmed 0 and more\n", f"ttyS0:up {HELD} none confirmed \u0661\n",
+    *(f"ttyS0:up {HELD} none confirmed 0\n".replace(old, new) for old, new in (
+        ("grant 1", "grant 0"), ("job 1", "job 01"), ("job 1", "job 1000000"), ("888", "5550x"), ("888", ""), ("1-3", "1"),
+        ("1-3", "0-3"), (" call", "  call"))),
+    "   JID Pri S Number\n", "jobid:1\n", '{"no":8}\n', "<html>\n",
+]
+
+
+@check
+def modems(folder):
+    """`modems` prints each modem with the grant that it holds, also one that the setup lacks; no other text is taken for that."""
+    port = free_port()
+    with serving(folder, port):
+        queue = Queue(folder, port)
+        queue.does("ttyS0:up\nttyS1:up", "modems")
+        queue.does("1", "submit", "888", "--pages", "3")
+        grant = queue.grant("ttyS0", 1)
+        queue.does(f"ttyS0:up {HELD} none confirmed 0\nttyS1:up", "modems")
+        queue.report(grant, "call", result="connected")
+        queue.report(grant, "page", page=1)
+        for name in "ttyS0", "ttyS1":
+            queue.does(f"modem {name} is down", "modems", "down", name)
+        queue.does(f"ttyS0:down {HELD} connected confirmed 1\nttyS1:down", "modems")
+    (folder / "setup").write_text("Modem: ttyS1\nModem: a.b\n")
+    with Server(folder / "queue.db", "--setup", folder / "setup", port=port):
+        queue.does(f"a.b:up\nttyS0:gone {HELD} connected confirmed 1\nttyS1:down", "modems")
+    (folder / "setup").write_text("")
+    with Server(folder / "none.db", "--setup", folder / "setup", port=port):
+        expect(queue.desk.says(queue.url, "modems")[:2] == (0, ""), "a queue without modems isn't answered so")
+    expect(not queue.desk.left(), f"{queue.desk.left()} is left")
+
+
+@check
+def other_modems(folder):
+    """What isn't a list of modems is reported at once, what says nothing is asked for again, and an older queue is named so."""
+    desk, shown = Desk(folder), f"a-b.C_9:up\nttyS0:gone {HELD} no-answer confirmed 0\n"
+    for text in NO_MODEMS:
+        with attempt(text), Answers(reply(200, text, "text/plain")) as peer:
+            desk.fails("isn't a fax queue", 3, peer.url, "modems")
+    for answer in reply(200, shown, "text/html"), reply(201, shown, "text/plain"), reply(200, '{"down":false}'):
+        with attempt(answer), Answers(answer) as peer:
+            desk.fails("isn't a fax queue", 3, peer.url, "modems")
+    with attempt("what says nothing"), Answers(*NOTHING, reply(200, shown, "text/plain", length=999),
+                                               reply(200, shown, "text/plain")) as peer:
+        desk.does(shown[:-1], peer.url, "modems")
+        expect(set(peer.seen) == {peer.seen[0]} and peer.seen[0].startswith(b"GET /modems "), f"it asks {peer.seen}")
+    with attempt("an older queue"), Answers(reply(404, '{"no":3,"word":"no-route"}')) as peer:
+        desk.fails("refused: no-route: .*older", 1, peer.url, "modems")
+
+
+LAST, FLOOR = 10**18 - 1, '{"floor":999999999999999998}'
+GIVEN_UP = 410, b'{"no":28,"word":"given-up"}'
+
+
+@check
+def retired(folder):
+    """Over the bad line a client is retired, and again to no effect: from then on each request under its name is refused as given
+    up, also one that was accepted before, and other clients are served as ever."""
+    port, desk, shop = free_port(), Desk(folder), Desk(folder, "shop")
+    with serving(folder, port), line_to(port, 3, 0.3) as (line, _):
+        url = f"http://127.0.0.1:{line}"
+        for number in 17, 18:
+            status, _ = answer_to(port, post("/jobs", number, "number:5550111\ntotpages:1\n", "shop", CLOSE))
+            expect(status == 201, f"request {number} is answered {status}")
+        for _ in "ab":
+            desk.does("client shop is retired", url, "retire", "shop")
+        for number in 17, 19, LAST - 1:
+            late = answer_to(port, post("/jobs", number, "number:5550111\ntotpages:1\n", "shop", CLOSE))
+            expect(late == GIVEN_UP, f"request {number} is answered {late}")
+        shop.fails("refused: given-up", 1, url, *FAX)
+        shop.fails("refused: given-up", 1, url, "kill", "1")
+        desk.does("3", url, *FAX)
+        desk.does("job 1 is failed", url, "kill", "1")
+        time.sleep(0.4)  # late ones come
+    expect(rows(folder, "SELECT count(*) FROM jobs") == [(3,)], "there are other jobs than three")
+    found = rows(folder, "SELECT client, upto FROM floors") + rows(folder, "SELECT number FROM replies WHERE client = 'shop'")
+    expect([str(value) for row in found for value in row] == ["shop", str(LAST - 1), str(LAST)], f"the file has {found}")
+    expect(not desk.left() and not shop.left(), f"{desk.left()} and {shop.left()} are left")
+
+
+@check
+def retired_later(folder):
+    """Stopped before they were answered, two clients are retired by `left`, each by the request that was sent before; what was
+    kept for such a client goes first; and no answer but that of its floor is believed."""
+    port, desk = free_port(), Desk(folder)
+    url = f"http://127.0.0.1:{port}"
+    for client in "shop", "lab":
+        data = desk.killed(port, "retire", client)
+        expect(number_of(data) == str(LAST) and f"\r\nFax-Client: {client}\r\n".encode() in data
+               and data.endswith(b'\r\n\r\n{"upto":999999999999999998}'), f"it sends {data}")
+    expect(len(desk.left()) == 2, f"{desk.left()} is kept")
+    with serving(folder, port):
+        desk.does("\n".join(f'retire {client}: {{"floor": {LAST - 1}}}' for client in ("shop", "lab")), url, "left")
+        expect(rows(folder, "SELECT client FROM floors ORDER BY client") == [("lab",), ("shop",)], "other clients are retired")
+    desk.client = "old"
+    desk.killed(port, *FAX)
+    desk.client = "desk"
+    with serving(folder, port):
+        status, out, err = desk.says(url, "retire", "old")
+        expect((status, out) == (0, "client old is retired\n") and 'left from before: submit 5550111 --pages 1: {"job": 1}' in err,
+               f"it ends with {status}, and says {out!r} and {err!r}")
+    expect(not desk.left(), f"{desk.left()} is left")
+    for number, answer in enumerate((reply(200, "{}"), reply(200, '{"floor":3}'), reply(200, '{"floor":1e18}'), reply(201, FLOOR),
+                                     reply(200, FLOOR, "text/plain"), reply(200, '{"job":1}'), reply(200, "<html>", "text/html"))):
+        desk = Desk(folder, f"desk{number}")
+        with attempt(answer), Answers(answer, *NOTHING, reply(200, FLOOR)) as peer:
+            desk.fails("isn't a fax queue", 3, peer.url, "retire", "shop")
+            expect(len(desk.left()) == 1, f"{desk.left()} is kept")
+            desk.does("client shop is retired", peer.url, "retire", "shop")
+            expect(len(set(peer.seen)) == 1 and not desk.left(), f"it sends {peer.seen}, and {desk.left()} is left")

@@ -98,8 +98,8 @@ def fill(folder):
 
 @check
 def waiting(_):
-    """While 2,000 jobs of 64 kB of extra lines wait and the server has 48 MB, the choice, the listing and a submission answer
-    within a second, and what shows one such job takes less than 8 MB more."""
+    """While 2,000 jobs of 64 kB of extra lines wait and the server has 48 MB, the choice, the listings, the modems and a
+    submission answer within a second, and what shows one such job takes less than 8 MB more."""
     with room() as folder:
         fill(folder)
         with Queue(folder, DATA) as server:
@@ -112,6 +112,8 @@ def waiting(_):
             for what, message, status, part in (
                     ("next", post("/modems/ttyS0/next", 1, client="ttyS0"), 200, f'"job":{HEAVY + 1},'),
                     ("the listing", get("/jobs"), 200, f"{HEAVY + 1} 127 R"),
+                    ("the newest jobs", get("/jobs/newest"), 200, f"{HEAVY + 1} 127 R"),
+                    ("the modems", get("/modems"), 200, f":up grant 1 job {HEAVY + 1} number "),
                     ("a submission", post("/jobs", 3, "number:5550333\ntotpages:1\n"), 201, f'{{"job":{HEAVY + 2}}}')):
                 body, taken = server.ask(what, message, status)
                 say(f"{what} in {taken:.3f} s")

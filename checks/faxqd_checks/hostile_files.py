@@ -133,6 +133,7 @@ def queue_file():
 
 ASKED = {  # of each file, in this order
     "job 1": get("/jobs/1"), "job 2": get("/jobs/2"), "job 3": get("/jobs/3"), "all jobs": get("/jobs"),
+    "the newest jobs": get("/jobs/newest"), "the modems": get("/modems"),
     "no route": get("/none"), "a repeat": post("/jobs", 2, "number:5550112\ntotpages:1\ntts:600\n"),
     "a used number": post("/jobs", 2, "number:1\ntotpages:1\n"),
     "a busy modem": post("/modems/ttyS0/next", 9, client="w0"),
@@ -260,7 +261,7 @@ def files():
     try_all(tasks)
     sound = queue_file()
     wanted = asked_of(copied(sound)).got
-    expect(sum(answer.startswith(b"HTTP/1.1 20") for answer in wanted.values()) == 9, f"a sound file: {wanted!r}")
+    expect(sum(answer.startswith(b"HTTP/1.1 20") for answer in wanted.values()) == 11, f"a sound file: {wanted!r}")
     try_all([*schemas(sound, wanted), *damages(sound.read_bytes(), wanted)])
 
 

@@ -25,6 +25,8 @@ def requests():
     """What is asked, in this order, with its name and the status that a sound file gives it."""
     yield from ((f"job {job}", 200, get(f"/jobs/{job}")) for job in JOBS)
     yield "all jobs", 200, get("/jobs")
+    yield "the newest jobs", 200, get("/jobs/newest")
+    yield "the modems", 200, get("/modems")
     yield "no route", 404, get("/none")
     yield "a repeat", 201, post("/jobs", 2, "number:5550112\ntotpages:1\ntts:600\n")
     yield "a used number", 409, post("/jobs", 2, "number:1\ntotpages:1\n")
@@ -45,15 +47,16 @@ def requests():
 
 ASKED = {name: message for name, _, message in requests()}
 ON_GRANT = {grant: [f"{what} on grant {grant}" for what in REPORTS] for grant in REPORTED}
-BESIDE = {1: ["a busy modem", *ON_GRANT[1]], 2: ON_GRANT[2], 3: ["a choice"]}  # other requests that read these jobs
+HOLD = ["a busy modem", "the modems"]  # those that read a hold, its grant and its job
+BESIDE = {1: [*HOLD, *ON_GRANT[1]], 2: ON_GRANT[2], 3: ["a choice"]}  # other requests that read these jobs
 REPEATS = ["a repeat", "a used number"]
 OF_FLOOR = ["a number given up", "a number above its floor"]
 # Who reads neither the clock nor the next numbers.
 NO_CLOCK = {"no route", *REPEATS, "a number given up"}
 ROWS = [  # each row, where it is found, and the requests that read it
-    *(("jobs", f"job = {job}", [f"job {job}", "all jobs", *(f"{what} {job}" for what in ON_JOBS), *BESIDE.get(job, [])])
-      for job in JOBS),
-    ("grants", "id = 1", BESIDE[1]), ("grants", "id = 2", ON_GRANT[2]), ("holds", "modem = 'ttyS0'", ["a busy modem"]),
+    *(("jobs", f"job = {job}",
+       [f"job {job}", "all jobs", "the newest jobs", *(f"{what} {job}" for what in ON_JOBS), *BESIDE.get(job, [])]) for job in JOBS),
+    ("grants", "id = 1", BESIDE[1]), ("grants", "id = 2", ON_GRANT[2]), ("holds", "modem = 'ttyS0'", HOLD),
     ("replies", "client = 'desk' AND number = 2", REPEATS), ("floors", "client = 'old'", OF_FLOOR),
     ("meta", "one = 1", [name for name in ASKED if name not in NO_CLOCK])]
 
@@ -112,8 +115,9 @@ def as_ever(name, got):
 
 
 def otherwise(name, got):
-    """Where a row was moved, a job may be shown otherwise, and a request on it or one that is refused answered otherwise."""
-    return b" 20" not in got[:11] or name[-1].isdigit()
+    """Where a row was moved, a job or a grant may be shown otherwise, and a request on it or one that is refused answered
+    otherwise."""
+    return b" 20" not in got[:11] or name[-1].isdigit() or name == "the modems"
 
 
 def passed_over(name, got):
@@ -186,8 +190,9 @@ def text_rows():
 
 
 MOVED = (  # rows that contradict others, or that no request can name: the requests that meet them, and what makes them
-    *((["all jobs", "a choice"], f"UPDATE jobs SET job = {job} WHERE job = 3") for job in (0, -1, 1000000, 2 ** 32 + 3, BIG)),
-    *((["a busy modem"], statement) for statement in (
+    *((["all jobs", "the newest jobs", "a choice"], f"UPDATE jobs SET job = {job} WHERE job = 3")
+      for job in (0, -1, 1000000, 2 ** 32 + 3, BIG)),
+    *((HOLD, statement) for statement in (
         "UPDATE holds SET job = 99", "UPDATE holds SET id = 99", "DELETE FROM grants WHERE id = 1",
         "UPDATE grants SET modem = 'ttyS2' WHERE id = 1", "UPDATE grants SET shut = 1 WHERE id = 1")),
     (ON_GRANT[1], "DELETE FROM jobs WHERE job = 1"),

@@ -114,9 +114,12 @@ def copied(file):
 # ---- replies
 
 REFUSALS = {int(number): (word, int(status)) for number, word, status in
-            re.findall(r"^\| (\d+) \| `(\S+)` \| (\d{3}) \|", (TOP / "docs/PROTOCOL.md").read_text(), re.M)}
+            re.findall(r"^\|(\d+)\|`(\S+)`\|(\d{3})\|", (TOP / "docs/PROTOCOL.md").read_text(), re.M)}
 PHRASES = {200: b"OK", 201: b"Created", 400: b"Bad Request", 403: b"Forbidden", 404: b"Not Found", 409: b"Conflict", 410: b"Gone",
            413: b"Payload Too Large", 503: b"Service Unavailable", 507: b"Insufficient Storage"}
+HELD = (r" grant [1-9]\d{0,8} job [1-9]\d{0,5} number \+?[0-9*#]{1,32} pages [1-9]\d{0,3}-\d{1,4} "
+        r"call (none|connected|busy|no-answer|no-carrier|other) confirmed \d{1,4}")
+MODEMS = re.compile(rf"([A-Za-z0-9._-]{{1,32}}:((up|down)({HELD})?|gone{HELD})\n)*", re.ASCII)
 ACCEPTED = ({"job"}, {"job", "state"}, {"grant"}, {"from", "grant", "job", "number", "to"}, {"stop"}, {"npages",
     "stop"}, {"down"}, {"floor"})
 Reply = collections.namedtuple("Reply", "status number body last")
@@ -146,8 +149,8 @@ def number_in(status, kind, body):
     """The number of a refusal, or 0; the body is one that the protocol has."""
     text = body.decode()
     if kind == b"text/plain":
-        expect(status == 200 and text.endswith("\n") and text.startswith(("jobid:", "   JID ")),
-            f"a text: {body[:200]!r}")
+        is_jobs = text.endswith("\n") and text.startswith(("jobid:", "   JID "))
+        expect(status == 200 and (is_jobs or MODEMS.fullmatch(text)), f"a text: {body[:200]!r}")
         return 0
     said = json.loads(text)
     expect_same(json.dumps(said, sort_keys=True, separators=(",", ":"), ensure_ascii=False), text, "a body")

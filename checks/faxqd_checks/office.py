@@ -100,6 +100,7 @@ def lost_replies(office, picture):
     logged = office.log.read_text()
     number = re.search(rb"(?i)fax-number: (\d+)", line.seen[0])[1].decode()
     expect(re.search(rf'(?m)^\d{{4}}-\S+ desk {number} 201 "POST /jobs HTTP', logged), f"nginx's log hasn't who asked: {logged}")
+    expect('"GET /jobs/newest HTTP' in logged, f"the page doesn't look at the newest jobs: {logged}")
 
 
 def loaded_again(office, browser, picture):

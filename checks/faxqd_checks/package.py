@@ -281,6 +281,8 @@ def is_installed(root, package):
     folder = root.path("/var/lib/faxqd").stat()
     faxqd = int(root.does("id", "-u", "faxqd"))
     expect((folder.st_mode & 0o777, folder.st_uid) == (0o700, faxqd) and faxqd, "the queue's folder isn't the user's alone")
+    told = root.does("faxqd", "--version")
+    expect(re.match(r"faxqd 0 \(commit (?!0{10})[0-9a-f]{10}, rattle-kit-(?!000)\w+\)", told), f"the version of the installed program is {told!r}")
     for page in ("man1/faxq.1.gz", "man5/faxqd.5.gz", "man8/faxqd.8.gz"):
         expect(root.path(f"/usr/share/man/{page}").exists(), f"{page} isn't there")
 

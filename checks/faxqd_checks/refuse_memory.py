@@ -60,6 +60,8 @@ CHOICE = [
     ("w1", 1, 1000, "/modems/ttyS1/next"),
     ("w0", 1, 1000, "/modems/ttyS0/next"),
     (1000, "/jobs/2"),
+    (1000, "/jobs/newest"),
+    (1000, "/modems"),
 ]
 DROPPED = '{"dialed":true,"outcome":"retry","pages":2,"reason":"line dropped"}'
 REPORTS = [

@@ -131,6 +131,10 @@ def names(proxy):
     is_answered(Asked(proxy, "POST", "/jobs", "desk", FAX, fields=named("desk", number=1)), 201, True, "a fax in one's own name")
     is_answered(Asked(proxy, "POST", "/jobs", "0", FAX, fields=named("0", number=1)), 201, True, "a fax of the client 0")
     is_answered(Asked(proxy, "GET", "/jobs", "desk"), 200, True, "a listing without a client's name")
+    asked = Asked(proxy, "GET", "/modems", "desk")
+    expect((asked.status, asked.body) == (200, b"ttyS0:up\n"), f"a client's GET /modems is answered {asked.status} {asked.body[:200]!r}")
+    asked = Asked(proxy, "POST", "/numbers/floor", "desk", '{"upto":1}', fields=named("other", number=2))
+    is_answered(asked, 403, False, "a floor of another client")
     for user, client in (("desk", "other"), ("desk", "0"), ("desk", "Desk"), ("desk", "desk2"), ("desk", "esk"), ("0", "desk"),
                          ("desk", "desk desk"), ("other", "ttyS0")):
         asked = Asked(proxy, "POST", "/jobs", user, FAX, fields=named(client, number=2))

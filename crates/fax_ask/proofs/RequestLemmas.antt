@@ -1,5 +1,5 @@
 -- A path that names a request has no LF.
-use Rattle.std.proofs.Common.{◌≡◌, ℕ, Bool, true, false, cond, eqb, leb, ◌&&◌, List, [], ◌∷◌, length, refl, sym, ap, ◌∙◌, arith}
+use Rattle.std.proofs.Common.{◌≡◌, ℕ, Bool, true, false, cond, eqb, leb, ◌&&◌, List, [], ◌∷◌, length, refl, sym, ap, ◌∙◌, arith, option_map}
 use Rattle.std.specs.Prelude.{Option, Some, None, codes, option_and_then}
 use Rattle.std.specs.Char.{is_ascii_digit}
 use Rattle.std.specs.Cmp.Lexicographic.{bytes_decides}
@@ -19,9 +19,10 @@ use Rattle.fax_ask.specs.declared.method.Method.TheVariants.{Get, Post, Another}
 use Rattle.fax_ask.specs.declared.request.Action.TheVariants.{Suspend, Resume, Kill, Alter}
 use Rattle.fax_ask.specs.declared.request.ReportKind.TheVariants.{Call, Page, Outcome}
 use Rattle.fax_ask.specs.declared.request.Request.{Request}
-use Rattle.fax_ask.specs.declared.request.Request.TheVariants.{OnJob, Mark, Next, OnGrant, Floor}
+use Rattle.fax_ask.specs.declared.request.Request.TheVariants.{OnJob, Mark, Next, OnGrant, Floor, Show}
 use Rattle.fax_ask.specs.Path.{parts, two_texts}
-use Rattle.fax_ask.specs.Request.{job_request, jobs_request, modem_action, modem_request, modems_request, grant_report, grant_request, grants_request, imports_request, numbers_request, root_request, path_request, request_of}
+use Rattle.fax_ask.specs.declared.view.View.TheVariants as view
+use Rattle.fax_ask.specs.Request.{job_request, jobs_request, modem_action, modem_request, modems_request, grant_report, grant_request, grants_request, imports_request, numbers_request, root_request, path_request, request_of, job_action}
 use Rattle.fax_ask.proofs.PathLemmas.{byte_of_parts}
 
 -- no text has an LF
@@ -72,31 +73,38 @@ in_action job action request false false true d e f g h is = same_text action (c
 in_action job action request false false false true e f g h is = same_text action (codes "alter") h refl
 in_action job action request false false false false e f g h is = absurd cc
 
--- the texts behind a job's number that name a request have none
-in_job : (method : Method) (job : ℕ) (rest : List (List ℕ)) (request : Request) → job_request method job rest ≡ Some request → lacks_lf rest
-in_job Get job [] request is = refl
-in_job Get job (action ∷ rest) request is = absurd cc
-in_job Post job [] request is = absurd cc
-in_job Post job (action ∷ []) request is =
-    one_more action [] (in_action job action request _ _ _ _ refl refl refl refl is) refl
-in_job Post job (action ∷ more ∷ rest) request is = absurd cc
-in_job Another job rest request is = absurd cc
+-- nor has what shows something at /jobs/{id}
+in_view : (id : List ℕ) (request : Request) (newest : Bool) (number : Option ℕ) → bytes_eq id (codes "newest") ≡ newest → request_number_of id ≡ number
+    → option_map Show (cond newest (Some view.Newest) (option_map view.Job number)) ≡ Some request → has_byte 10 id ≡ false
+in_view id request true number named e is = same_text id (codes "newest") named refl
+in_view id request false None named e is = absurd cc
+in_view id request false (Some job) named e is = numbers_lack_lf id job (begins_with_zero id) e
 
--- nor have the number and the texts
-in_id : (method : Method) (id : List ℕ) (rest : List (List ℕ)) (request : Request) (number : Option ℕ) → request_number_of id ≡ number
-    → option_and_then (λ job. job_request method job rest) number ≡ Some request → lacks_lf (id ∷ rest)
-in_id method id rest request None e is = absurd cc
-in_id method id rest request (Some job) e is =
-    one_more id rest (numbers_lack_lf id job (begins_with_zero id) e) (in_job method job rest request is)
+-- nor has a job's number before an action that names a request
+in_posted : (id action : List ℕ) (request : Request) (number : Option ℕ) → request_number_of id ≡ number
+    → option_and_then (λ job. job_action job action) number ≡ Some request → lacks_lf (id ∷ action ∷ [])
+in_posted id action request None e is = absurd cc
+in_posted id action request (Some job) e is =
+    one_more id (action ∷ []) (numbers_lack_lf id job (begins_with_zero id) e)
+    (one_more action [] (in_action job action request _ _ _ _ refl refl refl refl is) refl)
+
+-- nor have the texts from {id} on
+in_job : (method : Method) (id : List ℕ) (rest : List (List ℕ)) (request : Request) → job_request method id rest ≡ Some request → lacks_lf (id ∷ rest)
+in_job Get id [] request is = one_more id [] (in_view id request _ _ refl refl is) refl
+in_job Get id (action ∷ rest) request is = absurd cc
+in_job Post id [] request is = absurd cc
+in_job Post id (action ∷ []) request is = in_posted id action request (request_number_of id) refl is
+in_job Post id (action ∷ more ∷ rest) request is = absurd cc
+in_job Another id rest request is = absurd cc
 
 -- nor have the texts behind `jobs`
 in_jobs : (method : Method) (rest : List (List ℕ)) (request : Request) → jobs_request method rest ≡ Some request → lacks_lf rest
 in_jobs Get [] request is = refl
 in_jobs Post [] request is = refl
 in_jobs Another [] request is = refl
-in_jobs Get (id ∷ rest) request is = in_id Get id rest request (request_number_of id) refl is
-in_jobs Post (id ∷ rest) request is = in_id Post id rest request (request_number_of id) refl is
-in_jobs Another (id ∷ rest) request is = in_id Another id rest request (request_number_of id) refl is
+in_jobs Get (id ∷ rest) request is = in_job Get id rest request is
+in_jobs Post (id ∷ rest) request is = in_job Post id rest request is
+in_jobs Another (id ∷ rest) request is = in_job Another id rest request is
 
 -- ---- modems and grants
 
@@ -149,7 +157,8 @@ in_modem rest request (Some texts) e is = in_named rest texts request (is_name t
 
 -- nor have the texts behind `modems`
 in_modems : (method : Method) (rest : List (List ℕ)) (request : Request) → modems_request method rest ≡ Some request → lacks_lf rest
-in_modems Get rest request is = absurd cc
+in_modems Get [] request is = refl
+in_modems Get (text ∷ rest) request is = absurd cc
 in_modems Post rest request is = in_modem rest request (two_texts rest) refl is
 in_modems Another rest request is = absurd cc
 

@@ -16,7 +16,7 @@ use Rattle.fax_ask.specs.declared.request.ReportKind.TheVariants.{Call, Page, Ou
 use Rattle.fax_ask.specs.declared.request.Request.{Request}
 use Rattle.fax_ask.specs.declared.request.Request.TheVariants as request
 use Rattle.fax_ask.specs.declared.routes.Route.{Route}
-use Rattle.fax_ask.specs.declared.routes.Route.TheVariants.{Jobs, Job, OnJob, Mark, Next, OnGrant, Imports, Floor}
+use Rattle.fax_ask.specs.declared.routes.Route.TheVariants.{Jobs, Job, OnJob, Modems, Mark, Next, OnGrant, Imports, Floor}
 use Rattle.fax_ask.specs.Path.{parts, two_texts}
 use Rattle.fax_ask.specs.Request.{grant_report, grant_request, job_action, job_request, jobs_request, modem_action, modem_request, modems_request, grants_request, imports_request, numbers_request, root_request, path_request, request_of}
 use Rattle.fax_ask.specs.Routes.{posted, route_request, shown, table}
@@ -57,6 +57,9 @@ of_grants =
 abbrev jobs_end : Option Entry
 jobs_end = Some (plain_route (codes "/jobs") Jobs)
 
+abbrev modems_end : Option Entry
+modems_end = Some (plain_route (codes "/modems") Modems)
+
 abbrev imports_end : Option Entry
 imports_end = Some (plain_route (codes "/imports") Imports)
 
@@ -88,7 +91,7 @@ abbrev jobs_rows : RowsOf Entry
 jobs_rows = led_by (codes "jobs") (led_by (47 ∷ []) jobs_below ++ ends_of jobs_end)
 
 abbrev modems_rows : RowsOf Entry
-modems_rows = led_by (codes "modems") (led_by (47 ∷ []) modems_below ++ ends_of None)
+modems_rows = led_by (codes "modems") (led_by (47 ∷ []) modems_below ++ ends_of modems_end)
 
 abbrev numbers_rows : RowsOf Entry
 numbers_rows = led_by (codes "numbers") (led_by (47 ∷ []) numbers_below ++ ends_of None)
@@ -102,11 +105,6 @@ unfolding matchit_on_literals table plain_route id_route
 rows_are = refl
 
 -- ---- the three collections
-
--- where a number names nothing, a text that may be one doesn't either
-always_none : (o : Option ℕ) → option_and_then {T = ℕ} {U = Request} (λ number. None) o ≡ None
-always_none None = refl
-always_none (Some n) = refl
 
 -- a route with its parameter between slashes says what its request is with that text
 middle_says : (w name : List ℕ) (value : Route) (names : Method → Option Request) (id : List ℕ) → are_bytes w ≡ true
@@ -146,34 +144,34 @@ job_word : (id : List ℕ) → IsUtf8 id → has_slash id ≡ false → (name : 
     → Says (λ method. jobs_request method (id ∷ name ∷ [])) (codes "/jobs/" ++ (id ++ 47 ∷ name)) (Some (id_route (codes "/jobs/") (47 ∷ name) value))
 job_word id u f name value post get key =
     middle_says (codes "/jobs/") name value (λ method. jobs_request method (id ∷ name ∷ [])) id refl key u f
-    (by_method (λ method. jobs_request method (id ∷ name ∷ [])) value id (always_none (request_number_of id) ∙ sym get) post (always_none (request_number_of id)))
+    (by_method (λ method. jobs_request method (id ∷ name ∷ [])) value id (sym get) post refl)
 
 -- no other word is an action on a job
 no_job_action : (job : ℕ) (text : List ℕ) → NoneIs text of_jobs → job_action job text ≡ None
 no_job_action job text none = rw (none.1.1.1.0, none.1.1.0, none.1.0, none.0)
 
 -- so none names a request behind what may be a number
-no_job_word : (o : Option ℕ) (text : List ℕ) → NoneIs text of_jobs → (method : Method) → option_and_then (λ job. job_request method job (text ∷ [])) o ≡ None
-no_job_word None text none method = refl
-no_job_word (Some job) text none Get = refl
-no_job_word (Some job) text none Post = no_job_action job text none
-no_job_word (Some job) text none Another = refl
+no_job_word : (o : Option ℕ) (text : List ℕ) → NoneIs text of_jobs → option_and_then (λ job. job_action job text) o ≡ None
+no_job_word None text none = refl
+no_job_word (Some job) text none = no_job_action job text none
 
--- nor does anything longer
-long_job : (o : Option ℕ) (text more : List ℕ) (rest : List (List ℕ)) (method : Method) → option_and_then (λ job. job_request method job (text ∷ more ∷ rest)) o ≡ None
-long_job None text more rest method = refl
-long_job (Some job) text more rest Get = refl
-long_job (Some job) text more rest Post = refl
-long_job (Some job) text more rest Another = refl
+-- nor does anything with an empty number
+no_job : (method : Method) (rest : List (List ℕ)) → job_request method [] rest ≡ None
+no_job Get [] = refl
+no_job Get (x ∷ rest) = refl
+no_job Post [] = refl
+no_job Post (x ∷ []) = refl
+no_job Post (x ∷ y ∷ rest) = refl
+no_job Another rest = refl
 
 -- the routes behind `/jobs/` are a collection
 jobs_are : IsCollection (codes "/jobs/") jobs_request job_end of_jobs
 jobs_are = record {
   apart = (refl, refl, plain refl refl, (refl, refl, plain refl refl, (refl, refl, plain refl refl, (refl, refl, plain refl refl, tt))));
   some = refl;
-  no_id = λ rest method. elim method as (λ m. jobs_request m ([] ∷ rest) ≡ None) [ Get ↦ refl | Post ↦ refl | Another ↦ refl ];
+  no_id = λ rest method. no_job method rest;
   last = λ id u. last_says (codes "/jobs/") Job (λ method. jobs_request method (id ∷ [])) id refl refl u
-      (by_method (λ method. jobs_request method (id ∷ [])) Job id refl (always_none (request_number_of id)) (always_none (request_number_of id)));
+      (by_method (λ method. jobs_request method (id ∷ [])) Job id refl refl refl);
   words = λ id u f. (
     job_word id u f (codes "alter") (OnJob Alter) refl refl refl,
     (
@@ -184,8 +182,8 @@ jobs_are = record {
       ),
     ),
   );
-  others = λ id text none method. no_job_word (request_number_of id) text none method;
-  longer = λ id text more rest method. long_job (request_number_of id) text more rest method;
+  others = λ id text none method. elim method as (λ m. jobs_request m (id ∷ text ∷ []) ≡ None) [ Get ↦ refl | Post ↦ no_job_word (request_number_of id) text none | Another ↦ refl ];
+  longer = λ id text more rest method. elim method as (λ m. jobs_request m (id ∷ text ∷ more ∷ rest) ≡ None) [ Get ↦ refl | Post ↦ refl | Another ↦ refl ];
 }
 
 -- a word behind a modem's name says which request it is
@@ -332,8 +330,9 @@ in_numbers (Some path) =
 
 -- what follows `/modems` does
 in_modems : (more : Option (List ℕ)) → IsTextIfSome more
-    → Says (λ method. root_request method (codes "modems" ∷ parts_left more)) (47 ∷ joined (codes "modems") more) (behind None modems_below more)
-in_modems None u = λ method. elim method as (λ m. modems_request m [] ≡ None) [ Get ↦ refl | Post ↦ refl | Another ↦ refl ]
+    → Says (λ method. root_request method (codes "modems" ∷ parts_left more)) (47 ∷ joined (codes "modems") more) (behind modems_end modems_below more)
+unfolding plain_route
+in_modems None u = (tt, λ method. elim method as (λ m. modems_request m [] ≡ route_request m Modems None) [ Get ↦ refl | Post ↦ refl | Another ↦ refl ])
 in_modems (Some path) u = in_collection (codes "/modems/") modems_request None of_modems modems_are path u
 
 -- what follows `/jobs` does
@@ -350,7 +349,7 @@ by_name text more =
     or_else (cond (bytes_eq text (codes "grants")) (behind None grants_below more) None)
     (or_else (cond (bytes_eq text (codes "imports")) (behind imports_end [] more) None)
     (or_else (cond (bytes_eq text (codes "jobs")) (behind jobs_end jobs_below more) None)
-    (or_else (cond (bytes_eq text (codes "modems")) (behind None modems_below more) None)
+    (or_else (cond (bytes_eq text (codes "modems")) (behind modems_end modems_below more) None)
     (cond (bytes_eq text (codes "numbers")) (behind None numbers_below more) None))))
 
 -- the name of a collection has its rows
@@ -362,8 +361,8 @@ name_found text more f =
     ∙ ap₂ or_else (word (codes "imports") text [] imports_end more refl f)
     (branch 106 (codes "obs") (led_by (47 ∷ []) jobs_below ++ ends_of jobs_end) (modems_rows ++ numbers_rows) (joined text more) (omega arith) refl (plain refl refl)
     ∙ ap₂ or_else (word (codes "jobs") text jobs_below jobs_end more refl f)
-    (branch 109 (codes "odems") (led_by (47 ∷ []) modems_below ++ ends_of None) numbers_rows (joined text more) (omega arith) refl (plain refl refl)
-    ∙ ap₂ or_else (word (codes "modems") text modems_below None more refl f)
+    (branch 109 (codes "odems") (led_by (47 ∷ []) modems_below ++ ends_of modems_end) numbers_rows (joined text more) (omega arith) refl (plain refl refl)
+    ∙ ap₂ or_else (word (codes "modems") text modems_below modems_end more refl f)
     (word (codes "numbers") text numbers_below None more refl f))))
 
 -- no other name has a request
@@ -394,8 +393,8 @@ name_says text more u = by (bytes_eq text (codes "grants")) refl (bytes_eq text 
         (behind jobs_end jobs_below more)
         (or_none (behind jobs_end jobs_below more)) (in_jobs more u))
     by false e false i false f true g numbers n = named_so (codes "modems") g
-        (says_by (λ method. root_request method (codes "modems" ∷ parts_left more)) (47 ∷ joined (codes "modems") more) (by_name (codes "modems") more) (behind None modems_below more)
-        (or_none (behind None modems_below more)) (in_modems more u))
+        (says_by (λ method. root_request method (codes "modems" ∷ parts_left more)) (47 ∷ joined (codes "modems") more) (by_name (codes "modems") more) (behind modems_end modems_below more)
+        (or_none (behind modems_end modems_below more)) (in_modems more u))
     by false e false i false f false g true n = named_so (codes "numbers") n (in_numbers more)
     by false e false i false f false g false n =
         says_by (λ method. root_request method (text ∷ parts_left more)) (47 ∷ joined text more) (by_name text more) None (rw (e, i, f, g, n)) (other_name text (parts_left more) e i f g n)

@@ -39,6 +39,30 @@ list : request_of Get (codes "/jobs") ≡ Some (Show view.Jobs)
 unfolding request_of
 list = refl
 
+newest : request_of Get (codes "/jobs/newest") ≡ Some (Show view.Newest)
+unfolding request_of
+newest = refl
+
+newest_posted : request_of Post (codes "/jobs/newest") ≡ None
+unfolding request_of
+newest_posted = refl
+
+newest_killed : request_of Post (codes "/jobs/newest/kill") ≡ None
+unfolding request_of
+newest_killed = refl
+
+modems : request_of Get (codes "/modems") ≡ Some (Show view.Modems)
+unfolding request_of
+modems = refl
+
+modems_posted : request_of Post (codes "/modems") ≡ None
+unfolding request_of
+modems_posted = refl
+
+one_modem : request_of Get (codes "/modems/ttyS0") ≡ None
+unfolding request_of
+one_modem = refl
+
 next : request_of Post (codes "/modems/ttyS0/next") ≡ Some (Next (codes "ttyS0"))
 unfolding request_of
 next = refl

@@ -5,7 +5,7 @@ use Rattle.fax_ask.specs.declared.answer.Answer.{Answer}
 use Rattle.fax_ask.specs.declared.answer.Answer.TheVariants.{Submitted, Brought, Stands, Marked, NoneToSend, Given, Called, Confirmed, Floored, Lines, Listing}
 use Rattle.fax_ask.specs.declared.answer.Handed.{Handed}
 
--- what a client is told: the machine's reply to a step, the key lines of a job, or the listing of all
+-- what a client is told: the machine's reply to a step, key lines, or a listing of jobs
 pub data Told : Type 0 where
   Replied : (reply : machine.Reply) → Told
   Shown : (lines : List ℕ) → Told

@@ -1,5 +1,5 @@
 -- The table of requests: which method and path name which.
-use Rattle.std.specs.Prelude.{ℕ, true, false, List, [], ◌∷◌, ◌==◌, length, codes, Option, Some, None, option_and_then, if◌then◌else◌}
+use Rattle.std.specs.Prelude.{ℕ, true, false, List, [], ◌∷◌, ◌==◌, length, codes, Option, Some, None, option_and_then, option_map, if◌then◌else◌}
 use Rattle.std.specs.Str.{bytes_eq}
 use Rattle.fax_value.specs.Name.{is_name}
 use Rattle.fax_value.specs.Number.{request_number_of}
@@ -9,6 +9,7 @@ use Rattle.fax_ask.specs.declared.request.Action.TheVariants.{Suspend, Resume, K
 use Rattle.fax_ask.specs.declared.request.ReportKind.TheVariants.{Call, Page, Outcome}
 use Rattle.fax_ask.specs.declared.request.Request.{Request}
 use Rattle.fax_ask.specs.declared.request.Request.TheVariants.{Show, Submit, Import, OnJob, Mark, Next, OnGrant, Floor}
+use Rattle.fax_ask.specs.declared.view.View.{View}
 use Rattle.fax_ask.specs.declared.view.View.TheVariants as view
 use Rattle.fax_ask.specs.Path.{parts, two_texts}
 
@@ -21,17 +22,21 @@ job_action job action =
     else if bytes_eq action (codes "alter") then Some (OnJob job Alter)
     else None
 
+-- what GET shows at /jobs/{id}: the newest jobs, or the job of a number
+abbrev pub job_view : List ℕ → Option View
+job_view id = if bytes_eq id (codes "newest") then Some view.Newest else option_map view.Job (request_number_of id)
+
 -- GET /jobs/{id}, and what is posted below it
-abbrev pub job_request : Method → ℕ → List (List ℕ) → Option Request
-job_request Get job [] = Some (Show (view.Job job))
-job_request Post job (action ∷ []) = job_action job action
-job_request method job rest = None
+abbrev pub job_request : Method → List ℕ → List (List ℕ) → Option Request
+job_request Get id [] = option_map Show (job_view id)
+job_request Post id (action ∷ []) = option_and_then (λ job. job_action job action) (request_number_of id)
+job_request method id rest = None
 
 -- GET and POST of /jobs, and what stands below; {id} is 1 to 18 digits, the first not 0
 abbrev pub jobs_request : Method → List (List ℕ) → Option Request
 jobs_request Get [] = Some (Show view.Jobs)
 jobs_request Post [] = Some Submit
-jobs_request method (id ∷ rest) = option_and_then (λ job. job_request method job rest) (request_number_of id)
+jobs_request method (id ∷ rest) = job_request method id rest
 jobs_request method [] = None
 
 -- POST /modems/{m}/ACTION
@@ -47,9 +52,11 @@ abbrev pub modem_request : Option (List ℕ × List ℕ) → Option Request
 modem_request None = None
 modem_request (Some texts) = if is_name texts.0 then modem_action texts.0 texts.1 else None
 
+-- GET of /modems, and what is posted below it
 abbrev pub modems_request : Method → List (List ℕ) → Option Request
 modems_request Post rest = modem_request (two_texts rest)
-modems_request Get rest = None
+modems_request Get [] = Some (Show view.Modems)
+modems_request Get (text ∷ rest) = None
 modems_request Another rest = None
 
 -- POST /grants/{g}/REPORT

@@ -12,9 +12,10 @@ use Rattle.fax_ask.specs.declared.method.Method.TheVariants.{Get, Post, Another}
 use Rattle.fax_ask.specs.declared.request.Request.{Request}
 use Rattle.fax_ask.specs.declared.request.Request.TheVariants as request
 use Rattle.fax_ask.specs.declared.routes.Route.{Route}
-use Rattle.fax_ask.specs.declared.routes.Route.TheVariants.{Jobs, Job, OnJob, Mark, Next, OnGrant, Imports, Floor}
+use Rattle.fax_ask.specs.declared.routes.Route.TheVariants.{Jobs, Job, OnJob, Modems, Mark, Next, OnGrant, Imports, Floor}
 use Rattle.fax_ask.specs.declared.routes.TheConstants.{ROUTES}
 use Rattle.fax_ask.specs.declared.view.View.TheVariants as view
+use Rattle.fax_ask.specs.Request.{job_view}
 
 -- the rows with the route that a pattern's text gives
 abbrev pub with_route : Result Scan InsertError → Route → RowsOf (RouteOf Route) → RowsOf (RouteOf Route)
@@ -44,6 +45,7 @@ modem_in id = option_and_then (λ text. if is_name text then Some text else None
 abbrev pub posted : Route → Option (List ℕ) → Option Request
 posted Jobs id = Some request.Submit
 posted Job id = None
+posted Modems id = None
 posted Imports id = Some request.Import
 posted Floor id = Some request.Floor
 posted (OnJob action) id = option_map (λ job. request.OnJob job action) (number_in id)
@@ -54,7 +56,8 @@ posted (OnGrant kind) id = option_map (λ grant. request.OnGrant grant kind) (nu
 -- what GET names on it
 abbrev pub shown : Route → Option (List ℕ) → Option Request
 shown Jobs id = Some (request.Show view.Jobs)
-shown Job id = option_map (λ job. request.Show (view.Job job)) (number_in id)
+shown Job id = option_map request.Show (option_and_then job_view id)
+shown Modems id = Some (request.Show view.Modems)
 shown other id = None
 
 -- what a method names on it

@@ -34,8 +34,8 @@ pub enum Answer<'a> {
     Called { stop: bool },
     /// How many pages of the job are confirmed, and whether the worker is to stop.
     Confirmed { npages: u16, stop: bool },
-    /// The key lines of a job (sendq(5)).
+    /// Key lines: those of a job (sendq(5)), or one for each modem.
     Lines(&'a [u8]),
-    /// The listing of all jobs (faxstat(1)).
+    /// The listing of jobs (faxstat(1)).
     Listing(&'a [u8]),
 }

@@ -22,6 +22,6 @@ pub use answer::{Answer, Handed};
 pub use ask::Ask;
 pub use detail::Detail;
 pub use method::Method;
-pub use reply::{Reply, has_detail};
+pub use reply::Reply;
 pub use routes::Routes;
 pub use view::View;

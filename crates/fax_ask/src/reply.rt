@@ -57,16 +57,6 @@ impl Model for Reply {
     } };
 }
 
-/// Whether a refusal says more than its number and word, so that its reply wants a [`Detail`].
-pub fn has_detail(refusal: Refusal) -> bool
-    ensures { result ≡ has_detail refusal }
-{
-    matches!(
-        refusal,
-        Refusal::BadBody(_) | Refusal::Rejected | Refusal::ModemBusy | Refusal::PageOrder
-    )
-}
-
 impl Reply {
     /// The reply to an accepted request: status 201 where a job was made, else 200.
     pub fn accepted(alloc: Global, answer: &Answer<'_>) -> Result<Reply, AllocError>

@@ -1,6 +1,7 @@
 //! What may be asked for, by the route of a path.
 
 ghost use Rattle.std.specs.Prelude.{◌≡◌, option_copied};
+ghost use Rattle.fax_ask.specs.Request.{job_view};
 ghost use Rattle.fax_ask.specs.Routes.{modem_in, number_in, posted, route_request, shown};
 
 use crate::method::Method;
@@ -59,9 +60,22 @@ fn shown(route: Route, id: Option<&str>) -> Option<Request<'static>>
 {
     match route {
         Route::Jobs => Some(Request::Show(View::Jobs)),
-        Route::Job => Some(Request::Show(View::Job { job: number(id)? })),
+        Route::Job => Some(Request::Show(job_view(id?)?)),
+        Route::Modems => Some(Request::Show(View::Modems)),
         _ => None,
     }
+}
+
+/// What GET shows at `/jobs/{id}`: the newest jobs, or the job of that number.
+fn job_view(id: &str) -> Option<View>
+    ensures { result ≡ job_view id.now }
+{
+    if id == "newest" {
+        return Some(View::Newest);
+    }
+    Some(View::Job {
+        job: number(Some(id))?,
+    })
 }
 
 /// What POST names on a route.
@@ -70,7 +84,7 @@ fn posted(route: Route, id: Option<&str>) -> Option<Request<'_>>
 {
     match route {
         Route::Jobs => Some(Request::Submit),
-        Route::Job => None,
+        Route::Job | Route::Modems => None,
         Route::Imports => Some(Request::Import),
         Route::OnJob(action) => Some(Request::OnJob {
             job: number(id)?,

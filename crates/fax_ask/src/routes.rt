@@ -16,6 +16,7 @@ pub(crate) enum Route {
     Job,
     OnJob(Action),
     Mark { down: bool },
+    Modems,
     Next,
     OnGrant(ReportKind),
     Imports,
@@ -23,13 +24,14 @@ pub(crate) enum Route {
 }
 
 /// The pattern of each route: `{id}` is the number of a job or a grant, or the name of a modem.
-static ROUTES: [(&str, Route); 14] = [
+static ROUTES: [(&str, Route); 15] = [
     ("/jobs", Route::Jobs),
     ("/jobs/{id}", Route::Job),
     ("/jobs/{id}/suspend", Route::OnJob(Action::Suspend)),
     ("/jobs/{id}/resume", Route::OnJob(Action::Resume)),
     ("/jobs/{id}/kill", Route::OnJob(Action::Kill)),
     ("/jobs/{id}/alter", Route::OnJob(Action::Alter)),
+    ("/modems", Route::Modems),
     ("/modems/{id}/ready", Route::Mark { down: false }),
     ("/modems/{id}/down", Route::Mark { down: true }),
     ("/modems/{id}/next", Route::Next),

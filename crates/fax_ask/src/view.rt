@@ -8,4 +8,8 @@ pub enum View {
     Job { job: u64 },
     /// The listing of all jobs.
     Jobs,
+    /// The listing of the 200 jobs with the greatest numbers, or of all where there are fewer.
+    Newest,
+    /// A line for each modem.
+    Modems,
 }

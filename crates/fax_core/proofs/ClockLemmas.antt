@@ -17,7 +17,7 @@ use Rattle.fax_core.specs.Machine.{with_mark, is_down, held_by, submitted, broug
 use Rattle.fax_core.specs.Queue.{Queue, job_numbered, grant_numbered}
 use Rattle.fax_core.specs.Reply.{Reply, Marked, NoKeys, Step, Taken, Refused}
 use Rattle.fax_core.specs.Run.{Request, left_by, decided, queue_after}
-use Rattle.fax_core.specs.Settings.{Rule, Settings}
+use Rattle.fax_core.specs.Settings.{Rule, Settings, has_modem}
 
 -- the clock that a step leaves
 abbrev clock_left : Queue → Step → ℕ
@@ -91,8 +91,8 @@ act_clock : (s : Settings) (m : Queue) (t : ℕ) (ask : Ask) → clock_left m (a
 act_clock s m t (Submission o) = submitted_clock m (s.rule o.dial) (submit o (s.rule o.dial) m.next_job s.max_jobs t)
 act_clock s m t (Bring i) = import_clock s m t (s.rule i.order.dial) (bring i (s.rule i.order.dial) m.next_job s.max_jobs t)
 act_clock s m t (OnJob n ask) = on_job_clock s m t ask (job_numbered n m)
-act_clock s m t (Mark modem down) = mark_clock m modem down (s.has_modem modem)
-act_clock s m t (Next modem) = next_clock s m t modem (not (s.has_modem modem)) (is_down modem m)
+act_clock s m t (Mark modem down) = mark_clock m modem down (has_modem s modem)
+act_clock s m t (Next modem) = next_clock s m t modem (not (has_modem s modem)) (is_down modem m)
 act_clock s m t (OnGrant n report) = on_grant_clock s m t report (grant_numbered n m)
 act_clock s m t (GiveUp floor) = refl
 

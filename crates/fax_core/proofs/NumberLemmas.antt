@@ -1,5 +1,5 @@
 -- A step gives a job or a grant the next number, and no step lowers a next number.
-use Rattle.std.proofs.Common.{◌≡◌, ℕ, ◌+◌, ◌≤◌, Bool, true, false, cond, not, List, [], ◌∷◌, refl, sym, ap, subst, ◌∙◌, arith, nat_lt, is_some}
+use Rattle.std.proofs.Common.{◌≡◌, ℕ, ◌≤◌, Bool, true, false, cond, not, List, [], ◌∷◌, refl, sym, ap, subst, arith, nat_lt, is_some}
 use Rattle.std.specs.Prelude.{⊤, Option, Some, None, Result, Ok, Err}
 use Rattle.fax_job.specs.declared.order.Order.{Order}
 use Rattle.fax_job.specs.declared.refusal.Refusal.{Refusal}
@@ -20,7 +20,7 @@ use Rattle.fax_core.specs.Machine.{with_mark, is_down, held_by, submitted, broug
 use Rattle.fax_core.specs.Queue.{Queue, job_numbered, grant_numbered}
 use Rattle.fax_core.specs.Reply.{Reply, Submitted, Brought, Given, Stands, Marked, NoneToSend, Called, Confirmed, Floored, NoKeys, Step, Taken, Refused}
 use Rattle.fax_core.specs.Run.{Request, left_by, decided, queue_after}
-use Rattle.fax_core.specs.Settings.{Rule, Settings}
+use Rattle.fax_core.specs.Settings.{Rule, Settings, has_modem}
 use Rattle.fax_core.specs.Clock.{decided_at}
 use Rattle.fax_core.proofs.DecisionLemmas.{not_refused, ok_same}
 use Rattle.fax_core.proofs.ImportLemmas.{bring_counts}
@@ -113,8 +113,8 @@ act_numbers s m t (Submission o) =
 act_numbers s m t (Bring i) =
     import_numbers s m t (s.rule i.order.dial) (bring i (s.rule i.order.dial) m.next_job s.max_jobs t) (λ j e. (bring_counts i (s.rule i.order.dial) m.next_job s.max_jobs t j e).number)
 act_numbers s m t (OnJob n ask) = on_job_numbers s m t ask (job_numbered n m)
-act_numbers s m t (Mark modem down) = mark_numbers m modem down (s.has_modem modem)
-act_numbers s m t (Next modem) = next_numbers s m t modem (not (s.has_modem modem)) (is_down modem m)
+act_numbers s m t (Mark modem down) = mark_numbers m modem down (has_modem s modem)
+act_numbers s m t (Next modem) = next_numbers s m t modem (not (has_modem s modem)) (is_down modem m)
 act_numbers s m t (OnGrant n report) = on_grant_numbers s m t report (grant_numbered n m)
 act_numbers s m t (GiveUp floor) = (refl, refl)
 

@@ -22,7 +22,7 @@ use Rattle.fax_core.specs.Machine.{with_job, with_both, with_new_job, with_new_g
 use Rattle.fax_core.specs.Queue.{Queue, job_numbered, grant_numbered}
 use Rattle.fax_core.specs.Reply.{Reply, Marked, Handed, Given, NoKeys, Step, Taken, Refused}
 use Rattle.fax_core.specs.Run.{Request, left_by, decided, queue_after, AreLawful}
-use Rattle.fax_core.specs.Settings.{Rule, Settings}
+use Rattle.fax_core.specs.Settings.{Rule, Settings, has_modem}
 use Rattle.fax_core.specs.Sound.{IsJob, IsOpen, Sound}
 use Rattle.fax_core.proofs.DecisionLemmas.{Keeps, aged_number, aged_sent, asked_in, paged, reported_in}
 use Rattle.fax_core.proofs.KeepLemmas.{same_job, numbered_job, looked_up, Grants, found_new}
@@ -140,7 +140,7 @@ act_keeps : (s : Settings) (m n : Queue) (t : ℕ) (ask : Ask) (r : Reply) → S
 act_keeps s m n t (Submission o) r h e = submission_keeps m (s.rule o.dial) (submit o (s.rule o.dial) m.next_job s.max_jobs t) n r e
 act_keeps s m n t (Bring i) r h e = import_keeps s m t (s.rule i.order.dial) (bring i (s.rule i.order.dial) m.next_job s.max_jobs t) n r e
 act_keeps s m n t (OnJob a ask) r h e = on_job_keeps s m t a ask (job_numbered a m) n r refl e
-act_keeps s m n t (Mark modem down) r h e = mark_keeps m modem down (s.has_modem modem) n r e
+act_keeps s m n t (Mark modem down) r h e = mark_keeps m modem down (has_modem s modem) n r e
 act_keeps s m n t (Next modem) r h e = given_keeps s m t modem n r (given_is s m t modem n r h e)
 act_keeps s m n t (OnGrant a report) r h e = report_keeps s m n t a report (on_grant_is s m t a report (grant_numbered a m) n r refl e)
 act_keeps s m n t (GiveUp floor) r h e = same_sent m n (ap (λ (q : Queue). q.jobs) (sym (taken_same m n _ r e).0))

@@ -22,7 +22,7 @@ use Rattle.fax_core.specs.Machine.{act, brought_in, changed, given, given_best, 
 use Rattle.fax_core.specs.Queue.{Queue, grant_numbered, job_numbered}
 use Rattle.fax_core.specs.Reasons.{IsAtLimit, IsNotNext, RefusalsHaveReasons, When, WhenAsked, WhenNew, WhenNext, WhenReported}
 use Rattle.fax_core.specs.Reply.{Keys, Marked, NoKeys, Reply, Step, Taken, Refused}
-use Rattle.fax_core.specs.Settings.{Rule, Settings}
+use Rattle.fax_core.specs.Settings.{Rule, Settings, has_modem}
 use Rattle.fax_core.specs.Sound.{Sound}
 use Rattle.fax_core.specs.declared.ask.Ask.{Ask}
 use Rattle.fax_core.specs.declared.ask.Ask.TheVariants.{Submission, Bring, OnJob, Mark, Next, OnGrant, GiveUp}
@@ -239,7 +239,7 @@ module _ (P : Refusal → Type 0) where
       on_both_by s m t n r g (job_numbered g.job m) g.is_open e k h sound is refl refl (q g refl) (λ j x there d. f j g x refl there d)
 
   -- a mark of a modem
-  mark_by : (s : Settings) (m : Queue) (modem : List ℕ) (down b : Bool) (e : Refusal) (k : Keys) → s.has_modem modem ≡ b → marked s m modem down ≡ Refused e k → (s.has_modem modem ≡ false → P NoModem) → P e
+  mark_by : (s : Settings) (m : Queue) (modem : List ℕ) (down b : Bool) (e : Refusal) (k : Keys) → has_modem s modem ≡ b → marked s m modem down ≡ Refused e k → (has_modem s modem ≡ false → P NoModem) → P e
   mark_by s m modem down true e k is h p =
       let taken : Taken (with_mark modem down m) (Marked down) ≡ Refused e k = subst (λ (b : Bool). cond b (Taken (with_mark modem down m) (Marked down)) (Refused NoModem NoKeys) ≡ Refused e k) is h in cc
   mark_by s m modem down false e k is h p = step_told P NoModem e NoKeys k
@@ -267,7 +267,7 @@ free_by s m t modem None e k sound is h = best_by s m modem (best s m t modem) e
 
 next_by : (s : Settings) (m : Queue) (t : ℕ) (modem : List ℕ) (e : Refusal) (k : Keys) → Sound m → given_to s m t modem ≡ Refused e k → WhenNext s m modem e
 next_by s m t modem e k sound h =
-    step_by_test (WhenNext s m modem) (not (s.has_modem modem)) NoModem e NoKeys k _ h (not_is (s.has_modem modem)) (λ h.
+    step_by_test (WhenNext s m modem) (not (has_modem s modem)) NoModem e NoKeys k _ h (not_is (has_modem s modem)) (λ h.
     step_by_test (WhenNext s m modem) (is_down modem m) ModemDown e NoKeys k (given_free s m t modem (held_by modem m)) h (λ b. b) (λ h.
     free_by s m t modem (held_by modem m) e k sound refl h))
 
@@ -297,7 +297,7 @@ reason s m t (Bring i) e k sound h =
     let P = When s m t (Bring i) in
     brought_by P s m t (s.rule i.order.dial) (bring i (s.rule i.order.dial) m.next_job s.max_jobs t) e k h (λ x d. import_by P s m t i x d (λ y w. w))
 reason s m t (OnJob n a) e k sound h = on_job_by (WhenAsked m t n a) s m t a (job_numbered n m) e k h (λ none. none) (λ j x there d. ask_by m t n a j x there d)
-reason s m t (Mark modem down) e k sound h = mark_by (When s m t (Mark modem down)) s m modem down (s.has_modem modem) e k refl h (λ none. none)
+reason s m t (Mark modem down) e k sound h = mark_by (When s m t (Mark modem down)) s m modem down (has_modem s modem) e k refl h (λ none. none)
 reason s m t (Next modem) e k sound h = next_by s m t modem e k sound h
 reason s m t (OnGrant n r) e k sound h =
     on_grant_by (WhenReported m n r) s m t n r (grant_numbered n m) e k h sound refl (λ none. none) (λ g there shut. (g, there, shut)) (λ j g x there its d. report_by s m t n r j g x there its d)

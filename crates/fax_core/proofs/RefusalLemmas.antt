@@ -30,7 +30,7 @@ use Rattle.fax_core.specs.Machine.{with_mark, is_down, held_by, dial_of, handed,
 use Rattle.fax_core.specs.Queue.{Queue, open_grants, job_numbered, grant_numbered}
 use Rattle.fax_core.specs.Refusals.{may_meet, goes_with}
 use Rattle.fax_core.specs.Reply.{Handed, Reply, Marked, Keys, NoKeys, HeldGrant, Step, Taken, Refused}
-use Rattle.fax_core.specs.Settings.{Rule, Settings}
+use Rattle.fax_core.specs.Settings.{Rule, Settings, has_modem}
 use Rattle.fax_core.specs.Sound.{IsOpen, Sound}
 use Rattle.fax_core.proofs.PlaceLemmas.{found, found_in, of_filter, in_found}
 use Rattle.fax_core.proofs.StepLemmas.{aged_sound}
@@ -222,7 +222,7 @@ free_refused s m t modem None e k h = best_refused s m modem (best s m t modem) 
 -- so is each request for work
 next_refused : (s : Settings) (m : Queue) (t : ℕ) (modem : List ℕ) (e : Refusal) (k : Keys) → given_to s m t modem ≡ Refused e k → IsOf (Next modem) e k
 next_refused s m t modem e k h =
-    step_or (IsOf (Next modem)) (not (s.has_modem modem)) NoModem e NoKeys k _ h (is_of refl refl) (λ h.
+    step_or (IsOf (Next modem)) (not (has_modem s modem)) NoModem e NoKeys k _ h (is_of refl refl) (λ h.
     step_or (IsOf (Next modem)) (is_down modem m) ModemDown e NoKeys k (given_free s m t modem (held_by modem m)) h (is_of refl refl) (λ h.
     free_refused s m t modem (held_by modem m) e k h))
 
@@ -253,7 +253,7 @@ act_refused s m t (Bring i) e k h x =
     import_refused (IsOf (Bring i)) s m t (s.rule i.order.dial) (bring i (s.rule i.order.dial) m.next_job s.max_jobs t) e k
     (bring_refused P (is_of refl refl) (is_of refl refl) (is_of refl refl) i (s.rule i.order.dial) m.next_job s.max_jobs t) x
 act_refused s m t (OnJob n a) e k h x = on_job_refused (IsOf (OnJob n a)) s m t a (job_numbered n m) e k (is_of refl refl) (λ j. ask_refused n t a j) x
-act_refused s m t (Mark modem down) e k h x = mark_refused (IsOf (Mark modem down)) m modem down (s.has_modem modem) e k (is_of refl refl) x
+act_refused s m t (Mark modem down) e k h x = mark_refused (IsOf (Mark modem down)) m modem down (has_modem s modem) e k (is_of refl refl) x
 act_refused s m t (Next modem) e k h x = next_refused s m t modem e k x
 act_refused s m t (OnGrant n r) e k h x = on_grant_refused (IsOf (OnGrant n r)) s m t n r (grant_numbered n m) e k h refl (is_of refl refl) (is_of refl refl) (λ j g. report_refused n s t r j g) x
 act_refused s m t (GiveUp floor) e k h x = cc
@@ -313,4 +313,4 @@ next_held s m t modem e c h sound false false x = free_held s m t modem (held_by
 
 -- the same of a step, which ages the jobs first
 pub step_held : (s : Settings) (m : Queue) (t : ℕ) (modem : List ℕ) (e : Refusal) (c : Bool) (h : Handed) → Sound m → step s m t (Next modem) ≡ Refused e (HeldGrant c h) → TellsHeld (aged t m) modem c h
-step_held s m t modem e c h sound x = next_held s (aged t m) t modem e c h (aged_sound t m sound) (not (s.has_modem modem)) (is_down modem (aged t m)) x
+step_held s m t modem e c h sound x = next_held s (aged t m) t modem e c h (aged_sound t m sound) (not (has_modem s modem)) (is_down modem (aged t m)) x

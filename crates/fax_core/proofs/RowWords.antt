@@ -1,5 +1,5 @@
 -- Words of the worked rows: two modems, of which one is fast, no controls and an empty queue, unless a row says otherwise.
-use Rattle.std.specs.Prelude.{decimal, ℕ, Bool, true, ◌&&◌, ◌||◌, List, [], map, codes, Option, Some, None}
+use Rattle.std.specs.Prelude.{decimal, ℕ, Bool, true, ◌&&◌, ◌||◌, List, [], ◌∷◌, map, codes, Option, Some, None}
 use Rattle.std.specs.Str.{bytes_eq}
 use Rattle.fax_job.specs.declared.alter.Alter.{Alter}
 use Rattle.fax_job.specs.declared.job.Call.{Call}
@@ -37,7 +37,7 @@ abbrev pub settings : Settings
 settings = record {
   rule = λ dial. default_rule;
   admits = λ value modem. bytes_eq value (codes "any") || bytes_eq value modem || (bytes_eq value (codes "fast") && bytes_eq modem ttyS0);
-  has_modem = λ modem. bytes_eq modem ttyS0 || bytes_eq modem ttyS1;
+  modems = ttyS0 ∷ ttyS1 ∷ [];
   delay = delay_after;
   max_jobs = 999999;
   max_grants = 999999999;

@@ -119,7 +119,7 @@ ready_again = refl
 -- ---- calls to one number
 
 -- where a rule allows two calls, two jobs to one number go at a time, and no third
-two_calls : answers (record settings { rule = λ dial. record default_rule { calls = 2 }; has_modem = λ modem. true }) empty_queue (Submission (order long_number 1) at 0 ∷ Submission (order long_number 1) at 0 ∷ Submission (order long_number 1) at 0 ∷ Next ttyS0 at 0 ∷ Next ttyS1 at 0 ∷ Next (codes "ttyS2") at 0 ∷ []) ≡
+two_calls : answers (record settings { rule = λ dial. record default_rule { calls = 2 }; modems = ttyS0 ∷ ttyS1 ∷ codes "ttyS2" ∷ [] }) empty_queue (Submission (order long_number 1) at 0 ∷ Submission (order long_number 1) at 0 ∷ Submission (order long_number 1) at 0 ∷ Next ttyS0 at 0 ∷ Next ttyS1 at 0 ∷ Next (codes "ttyS2") at 0 ∷ []) ≡
     Replied (Submitted 1) ∷ Replied (Submitted 2) ∷ Replied (Submitted 3)
     ∷ Replied (Given (hand 1 1 long_number 1 1)) ∷ Replied (Given (hand 2 2 long_number 1 1)) ∷ Replied NoneToSend ∷ []
 two_calls = refl

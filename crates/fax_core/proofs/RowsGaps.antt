@@ -1,5 +1,5 @@
 -- Worked rows: numbers that ascend with gaps, and numbers that don't.
-use Rattle.std.proofs.Common.{◌≡◌, ℕ, [], ◌∷◌, refl, arith}
+use Rattle.std.proofs.Common.{[], ◌∷◌, arith}
 use Rattle.fax_core.specs.Sound.{AscendBetween}
 
 -- jobs 2 and 5 are left of eight

@@ -1,8 +1,7 @@
 -- Worked rows: that each refusal that is listed for a request is met, and what no run from the empty queue shows.
-use Rattle.std.specs.Prelude.{◌≡◌, refl, ℕ, Bool, true, false, not, List, [], ◌∷◌, ◌++◌, map, codes, Some, None, if◌then◌else◌, nat_eq}
+use Rattle.std.specs.Prelude.{◌≡◌, refl, ℕ, Bool, true, false, List, [], ◌∷◌, ◌++◌, map, codes, Some, None, if◌then◌else◌, nat_eq}
 use Rattle.std.proofs.Common.{arith}
 use Rattle.std.specs.List.{starts_with}
-use Rattle.std.specs.Str.{bytes_eq}
 use Rattle.fax_job.specs.declared.job.Call.TheVariants.{Connected, Busy}
 use Rattle.fax_job.specs.declared.job.Wish.TheVariants.{Kill as Killing}
 use Rattle.fax_job.specs.declared.refusal.Refusal.TheVariants.{Unavailable, GrantClosed, NoModem}
@@ -36,7 +35,7 @@ tight = record settings {
       if starts_with nat_eq dial (codes "5559") then record default_rule { notice = Some (codes "closed") }
       else if starts_with nat_eq dial (codes "5558") then record default_rule { pages = Some 1 }
       else default_rule;
-  has_modem = λ modem. not (bytes_eq modem (codes "ttyS9"));
+  modems = ttyS0 ∷ ttyS1 ∷ codes "ttyS2" ∷ codes "ttyS3" ∷ [];
   max_jobs = 5;
   max_grants = 3;
 }

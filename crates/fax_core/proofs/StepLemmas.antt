@@ -21,7 +21,7 @@ use Rattle.fax_core.specs.Machine.{with_job, with_both, with_new_job, with_new_g
 use Rattle.fax_core.specs.Queue.{Queue, open_grants, job_numbered, grant_numbered}
 use Rattle.fax_core.specs.Reply.{Reply, Handed, Marked, NoneToSend, Given, Keys, NoKeys, Step, Taken, Refused}
 use Rattle.fax_core.specs.Run.{Request, left_by, decided, queue_after, AreLawful}
-use Rattle.fax_core.specs.Settings.{Rule, Settings}
+use Rattle.fax_core.specs.Settings.{Rule, Settings, has_modem}
 use Rattle.fax_core.specs.Sound.{FitsFree, FitsGrant, IsJob, IsOpen, Sound}
 use Rattle.fax_core.proofs.BestLemmas.{best_is, none_goes, ready_waits}
 use Rattle.fax_core.proofs.DecisionLemmas as decision
@@ -164,7 +164,7 @@ free_given s m t modem None n r h is e = best_given s m t modem (best s m t mode
 -- the same of a request for work
 pub given_is : (s : Settings) (m : Queue) (t : ℕ) (modem : List ℕ) (n : Queue) (r : Reply) → Sound m → given_to s m t modem ≡ Taken n r → GivenTo s m t modem n r
 given_is s m t modem n r h e =
-    let a = not_refused_step (not (s.has_modem modem)) _ _ _ n r e in
+    let a = not_refused_step (not (has_modem s modem)) _ _ _ n r e in
     let b = not_refused_step (is_down modem m) _ _ (given_free s m t modem (held_by modem m)) n r a.1 in
     free_given s m t modem (held_by modem m) n r h refl b.1
 
@@ -180,7 +180,7 @@ act_sound : (s : Settings) (m n : Queue) (t : ℕ) (ask : Ask) (r : Reply) → S
 act_sound s m n t (Submission o) r h lawful e = submission_sound m (s.rule o.dial) (submit o (s.rule o.dial) m.next_job s.max_jobs t) n r (λ j. decision.submitted o (s.rule o.dial) m.next_job s.max_jobs t j lawful) h e
 act_sound s m n t (Bring i) r h lawful e = import_sound s m t (s.rule i.order.dial) (bring i (s.rule i.order.dial) m.next_job s.max_jobs t) n r (λ j is. ((bring_counts i (s.rule i.order.dial) m.next_job s.max_jobs t j is).number, bring_fits i (s.rule i.order.dial) m.next_job s.max_jobs t j lawful is)) h e
 act_sound s m n t (OnJob a ask) r h lawful e = on_job_sound s m t a ask (job_numbered a m) n r refl h e
-act_sound s m n t (Mark modem down) r h lawful e = marked_by m modem down (s.has_modem modem) n r h e
+act_sound s m n t (Mark modem down) r h lawful e = marked_by m modem down (has_modem s modem) n r h e
 act_sound s m n t (Next modem) r h lawful e = given_sound s m t modem n r h (given_is s m t modem n r h e)
 act_sound s m n t (OnGrant a report) r h lawful e = on_grant_sound s m t a report (grant_numbered a m) n r refl h e
 act_sound s m n t (GiveUp floor) r h lawful e = subst Sound (taken_same m n _ r e).0 h

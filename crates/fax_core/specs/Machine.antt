@@ -17,7 +17,7 @@ use Rattle.fax_core.specs.Import.{bring}
 use Rattle.fax_core.specs.Job.{Job}
 use Rattle.fax_core.specs.Queue.{Queue, open_grants, job_numbered, grant_numbered}
 use Rattle.fax_core.specs.Reply.{Handed, Reply, Submitted, Brought, Stands, Marked, NoneToSend, Given, Called, Confirmed, Floored, Keys, NoKeys, Notice, HeldGrant, Pages, Step, Taken, Refused}
-use Rattle.fax_core.specs.Settings.{Rule, Settings}
+use Rattle.fax_core.specs.Settings.{Rule, Settings, has_modem}
 use Rattle.fax_core.specs.State.{state}
 
 -- ---- places in the queue
@@ -135,7 +135,7 @@ on_grant s m t r (Some g) = on_both s m t r g (job_numbered g.job m)
 
 -- a modem of the setup is marked as down, or no more
 abbrev pub marked : Settings → Queue → List ℕ → Bool → Step
-marked s m modem down = if s.has_modem modem then Taken (with_mark modem down m) (Marked down) else Refused refusal.NoModem NoKeys
+marked s m modem down = if has_modem s modem then Taken (with_mark modem down m) (Marked down) else Refused refusal.NoModem NoKeys
 
 -- the granted job is put in its place and the grant at the end
 abbrev pub given : Queue → Result JobAndGrant Refusal → Step
@@ -155,7 +155,7 @@ given_free s m t modem None = given_best s m modem (best s m t modem)
 -- next
 abbrev pub given_to : Settings → Queue → ℕ → List ℕ → Step
 given_to s m t modem =
-    if not (s.has_modem modem) then Refused refusal.NoModem NoKeys
+    if not (has_modem s modem) then Refused refusal.NoModem NoKeys
     else if is_down modem m then Refused refusal.ModemDown NoKeys
     else given_free s m t modem (held_by modem m)
 

@@ -13,7 +13,7 @@ use Rattle.fax_core.specs.Job.{Job}
 use Rattle.fax_core.specs.Machine.{is_down, step}
 use Rattle.fax_core.specs.Queue.{Queue, grant_numbered, job_numbered}
 use Rattle.fax_core.specs.Reply.{Keys, Refused}
-use Rattle.fax_core.specs.Settings.{Settings}
+use Rattle.fax_core.specs.Settings.{Settings, has_modem}
 use Rattle.fax_core.specs.Sound.{IsOpen, Sound}
 use Rattle.fax_core.specs.declared.ask.Ask.{Ask}
 use Rattle.fax_core.specs.declared.ask.Ask.TheVariants.{Submission, Bring, OnJob, Mark, Next, OnGrant, GiveUp}
@@ -74,12 +74,12 @@ WhenAsked m t n ask other = OfJob m n (Refuses ask t other)
 
 -- the setup doesn't have the modem
 abbrev pub WhenMarked : Settings → List ℕ → Refusal → Type 0
-WhenMarked s modem NoModem = s.has_modem modem ≡ false
+WhenMarked s modem NoModem = has_modem s modem ≡ false
 WhenMarked s modem other = ⊥
 
 -- or it is down, or holds an open grant, or there are as many grants as there may be
 abbrev pub WhenNext : Settings → Queue → List ℕ → Refusal → Type 0
-WhenNext s m modem NoModem = s.has_modem modem ≡ false
+WhenNext s m modem NoModem = has_modem s modem ≡ false
 WhenNext s m modem ModemDown = is_down modem m ≡ true
 WhenNext s m modem ModemBusy = (number : ℕ) × (g : Grant) × IsOpen m number g × (g.modem ≡ modem)
 WhenNext s m modem Full = s.max_grants < m.next_grant

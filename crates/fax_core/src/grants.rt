@@ -1,6 +1,6 @@
 //! Grants.
 
-ghost use Rattle.std.specs.Prelude.{◌≡◌, ◌+◌, min, Some, false};
+ghost use Rattle.std.specs.Prelude.{◌≡◌, ◌+◌, min, Some};
 ghost use Rattle.fax_core.specs.Decisions.{granted};
 ghost use Rattle.fax_core.specs.Job.{job_of};
 
@@ -57,16 +57,6 @@ impl Grant {
     {
         Grant {
             confirmed: self.confirmed.saturating_add(1),
-            ..self
-        }
-    }
-
-    /// The grant after its outcome.
-    pub fn closed(self) -> Grant
-        ensures { result ≡ record self { is_open = false } }
-    {
-        Grant {
-            is_open: false,
             ..self
         }
     }

@@ -94,8 +94,8 @@ fn next_page(job: &Job, confirmed: u16) -> Result<Change, Refusal>
     })
 }
 
-/// Takes the outcome of a grant, which goes with [`Grant::closed`]. `delay` is how many seconds the job
-/// waits before it may be tried again, at most 86400.
+/// The job after the outcome of its grant, which is closed then. `delay` is how many seconds the job waits before it
+/// may be tried again, at most 86400.
 ///
 /// # Errors
 ///

@@ -1,5 +1,5 @@
 -- How many calls are open to a number, after a change of a job or a grant.
-use Rattle.std.proofs.Common.{◌≡◌, inl, inr, ℕ, ◌+◌, ◌-◌, ◌≤◌, ◌==◌, eqb, Bool, true, false, ◌&&◌, List, [], ◌∷◌, length, map, Option, Some, None, find, option_map, bytes_eq, refl, sym, ap, ap₂, subst, ◌∙◌, arith, eqb-true, ne_eqb}
+use Rattle.std.proofs.Common.{◌≡◌, inl, inr, ℕ, ◌+◌, ◌-◌, ◌≤◌, ◌==◌, eqb, Bool, true, false, ◌&&◌, List, [], ◌∷◌, map, Option, Some, None, find, option_map, bytes_eq, refl, sym, ap, ap₂, subst, ◌∙◌, arith, eqb-true, ne_eqb}
 use Rattle.std.specs.Cmp.Lexicographic.{bytes_decides}
 use Rattle.std.proofs.lemmas.Bool.{cases_Bool}
 use Rattle.fax_core.specs.Ageing.{aged, aged_job}

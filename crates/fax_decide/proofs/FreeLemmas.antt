@@ -9,7 +9,6 @@ use Rattle.fax_core.specs.Machine.{held_by}
 use Rattle.fax_core.specs.Queue.{Queue, grant_numbered, open_grants}
 use Rattle.fax_core.specs.Sound.{AscendBetween, IsOpen, Sound}
 use Rattle.fax_core.proofs.PlaceLemmas.{In, ascend_few, found, found_in, in_found, of_filter}
-use Rattle.fax_core.proofs.StepLemmas.{aged_sound}
 use Rattle.fax_tables.specs.Place.{placed}
 use Rattle.fax_store.specs.Grant.{IsNewGrant}
 use Rattle.fax_store.specs.Job.{IsNewJob, with_expired}

@@ -18,7 +18,7 @@ use Rattle.fax_core.specs.Machine.{dial_of, given, given_best, given_free, given
 use Rattle.fax_core.specs.Queue.{Queue, grant_numbered, job_numbered, open_grants}
 use Rattle.fax_core.specs.Reply as machine
 use Rattle.fax_core.specs.Reply.{Step}
-use Rattle.fax_core.specs.Settings.{Settings}
+use Rattle.fax_core.specs.Settings.{Settings, has_modem}
 use Rattle.fax_core.specs.Sound.{Sound, IsOpen}
 use Rattle.fax_core.specs.Submission.{recorded}
 use Rattle.fax_core.proofs.BestLemmas.{best_is}
@@ -126,7 +126,7 @@ module _ (m : Queue) (modem : List ℕ) (g : Grant) (hold : Hold) (sound : Sound
 
 -- ---- a modem of the setup that isn't down
 
-module _ (s : Settings) (m : Queue) (t : ℕ) (modem : List ℕ) (has : s.has_modem modem ≡ true) (up : is_down modem m ≡ false) where
+module _ (s : Settings) (m : Queue) (t : ℕ) (modem : List ℕ) (has : has_modem s modem ≡ true) (up : is_down modem m ≡ false) where
   -- what such a modem is given is by the grant that it holds, if any
   given_up : given_to s (aged t m) t modem ≡ given_free s (aged t m) t modem (held_by modem m)
   given_up =

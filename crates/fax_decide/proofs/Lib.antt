@@ -7,6 +7,7 @@ mod CallLemmas
 mod JobLemmas
 mod NewJobLemmas
 mod ViewLemmas
+mod NewestLemmas
 mod ReportLemmas
 mod ChoiceLemmas
 mod GivenLemmas

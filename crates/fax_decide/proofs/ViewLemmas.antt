@@ -1,7 +1,7 @@
 -- What is shown of a job, and of all jobs.
-use Rattle.std.proofs.Common.{◌≡◌, ℕ, zero, suc, ◌+◌, ◌<◌, List, [], ◌∷◌, ◌++◌, All, get_or, map, Option, Some, refl, sym, ap, ap₂, subst, ◌∙◌, arith, option_map}
+use Rattle.std.proofs.Common.{◌≡◌, inl, inr, ℕ, zero, suc, ◌+◌, ◌-◌, ◌<◌, ◌≤◌, List, [], ◌∷◌, ◌++◌, All, get_or, length, map, Option, Some, refl, sym, ap, ap₂, subst, ◌∙◌, arith, option_map}
 use Rattle.std.specs.List.Sorted.{IsStrictlyIncreasing}
-use Rattle.std.proofs.lemmas.List.{length-map}
+use Rattle.std.proofs.lemmas.List.{drop-map, length-map}
 use Rattle.std.proofs.lemmas.List.Elements.{All-head, All-tail}
 use Rattle.std.proofs.lemmas.List.Folds.{flat_map-map}
 use mathlib.Core.List.{map-map}
@@ -21,7 +21,11 @@ use Rattle.fax_core.proofs.DecisionLemmas.{aged_number}
 use Rattle.fax_core.proofs.FitsLemmas.{job_again, record_again}
 use Rattle.fax_tables.specs.Job.{IsLawfulJob, brief}
 use Rattle.fax_text.specs.Listing.{Listed, heading, line_of, listing_of, number_of}
-use Rattle.fax_run.specs.View.{viewed, view, with_state}
+use Rattle.fax_run.specs.View.{newest, viewed, view, with_state}
+use Rattle.fax_schema.proofs.ColumnLemmas.{all_kept}
+use Rattle.fax_store.specs.Job.{jobs_from}
+use Rattle.fax_decide.specs.Newest.{HasNewest, InBrief}
+use Rattle.fax_decide.proofs.NewestLemmas.{ascend_drop, is_later, newest_later, newest_map}
 use Rattle.fax_decide.proofs.LinesLemmas.{aged_lined, lined, state_lined}
 use Rattle.fax_decide.proofs.CallLemmas.{state_aged}
 
@@ -67,7 +71,7 @@ rows_ascend s m t sound =
 
 -- ---- without the extra lines
 
-abbrev thin : Listed → Listed
+abbrev pub thin : Listed → Listed
 thin row = (brief row.0, row.1)
 
 -- a job without its lines is listed without them, with the state that it has in the aged queue
@@ -78,14 +82,41 @@ row_seen s m t j lawful =
     ap (λ (x : Job). with_state s m t (aged_job t (lined [] x))) (job_again j lawful.pages) ∙ ap (with_state s m t) (sym (aged_lined [] t j))
     ∙ ap (λ (n : ℕ). (brief (fields_of k), n)) (state_lined [] k.phase k ((s.rule k.dial).hours t) (calls_to k.dial m) (s.rule k.dial).calls t ∙ sym (state_aged s m t k))
 
--- the records of all jobs but their extra lines, aged, are the rows of the listing but these
-pub briefs_seen : (s : Settings) (m : Queue) (t : ℕ) (records : List JobFields) → All IsLawfulJob m.jobs → records ≡ map (λ j. brief (fields_of j)) m.jobs
-    → map (λ f. with_state s m t (aged_job t (job_of f))) records ≡ map thin (map (with_state s (aged t m) t) (aged t m).jobs)
-briefs_seen s m t records lawful is =
+-- the records of jobs but their extra lines, aged, are the rows of their listing but these
+pub briefs_seen : (s : Settings) (m : Queue) (t : ℕ) (jobs : List Job) (records : List JobFields) → All IsLawfulJob jobs → records ≡ map (λ j. brief (fields_of j)) jobs
+    → map (λ f. with_state s m t (aged_job t (job_of f))) records ≡ map thin (map (with_state s (aged t m) t) (map (aged_job t) jobs))
+briefs_seen s m t jobs records lawful is =
     let seen = with_state s (aged t m) t in
-    ap (map (λ f. with_state s m t (aged_job t (job_of f)))) is ∙ map-map (λ f. with_state s m t (aged_job t (job_of f))) (λ j. brief (fields_of j)) m.jobs
-    ∙ map_same _ (λ j. thin (seen (aged_job t j))) IsLawfulJob (row_seen s m t) m.jobs lawful
-    ∙ sym (ap (map thin) (map-map seen (aged_job t) m.jobs) ∙ map-map thin (λ j. seen (aged_job t j)) m.jobs)
+    ap (map (λ f. with_state s m t (aged_job t (job_of f)))) is ∙ map-map (λ f. with_state s m t (aged_job t (job_of f))) (λ j. brief (fields_of j)) jobs
+    ∙ map_same _ (λ j. thin (seen (aged_job t j))) IsLawfulJob (row_seen s m t) jobs lawful
+    ∙ sym (ap (map thin) (map-map seen (aged_job t) jobs) ∙ map-map thin (λ j. seen (aged_job t j)) jobs)
+
+-- of some jobs, the last rows are those of the newest of all but their extra lines, where their newest are
+module _ (s : Settings) (m : Queue) (t : ℕ) (records : List JobFields) (rows : List Listed) (are : rows ≡ map (λ f. with_state s m t (aged_job t (job_of f))) records) where
+  newest_of : (jobs : List Job) → All IsLawfulJob jobs → InBrief jobs records → newest jobs ≡ newest m.jobs
+      → newest rows ≡ map thin (map (with_state s (aged t m) t) (newest (aged t m).jobs))
+  newest_of jobs lawful brief same =
+      let seen = with_state s (aged t m) t in
+      ap newest (are ∙ briefs_seen s m t jobs records lawful brief) ∙ newest_map thin (map seen (map (aged_job t) jobs))
+      ∙ ap (map thin) (newest_map seen (map (aged_job t) jobs)
+      ∙ ap (map seen) (newest_map (aged_job t) jobs ∙ ap (map (aged_job t)) same ∙ sym (newest_map (aged_job t) m.jobs)))
+
+  -- so are those of the jobs that are read
+  pub newest_seen : Sound m → All IsLawfulJob m.jobs → HasNewest m records → newest rows ≡ map thin (map (with_state s (aged t m) t) (newest (aged t m).jobs))
+  newest_seen sound lawful (inl read) =
+      let long = ap length read.are ∙ length-map (jobs_from read.first m) (λ j. brief (fields_of j)) in
+      newest_of (jobs_from read.first m) (all_kept IsLawfulJob (is_later (λ (j : Job). j.number) read.first) m.jobs lawful) read.are
+      (newest_later (λ (j : Job). j.number) read.first 0 m.next_job m.jobs sound.jobs (subst (λ n. 200 ≤ n) long read.enough))
+  newest_seen sound lawful (inr all) = newest_of m.jobs lawful all refl
+
+-- which have ascending numbers
+pub newest_ascend : (s : Settings) (m : Queue) (t : ℕ) → Sound m → IsStrictlyIncreasing (map number_of (map (with_state s (aged t m) t) (newest (aged t m).jobs)))
+newest_ascend s m t sound =
+    let n = length m.jobs - 200 in
+    let some = ascend_drop n 0 m.next_job (map (λ (j : Job). j.number) m.jobs) sound.jobs in
+    let numbers = drop-map (λ (j : Job). j.number) n m.jobs ∙ sym (numbers_seen s (aged t m) t (newest m.jobs))
+    ∙ ap (λ (js : List Job). map number_of (map (with_state s (aged t m) t) js)) (sym (newest_map (aged_job t) m.jobs)) in
+    increasing some.0 m.next_job _ (subst (λ ns. AscendBetween some.0 ns m.next_job) numbers some.1)
 
 -- the listing shows the same without the extra lines
 pub listing_thin : (shows : ℕ → List ℕ) (rows : List Listed) → listing_of shows (map thin rows) ≡ listing_of shows rows

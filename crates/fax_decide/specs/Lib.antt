@@ -8,3 +8,5 @@ pub mod Decision
 pub mod Records
 pub mod Report
 pub mod Looking
+pub mod Newest
+pub mod Held

@@ -3,7 +3,7 @@ use Rattle.std.specs.Prelude.{ℕ, Bool, List}
 use Rattle.fax_core.specs.Settings.{Rule, Settings}
 use Rattle.fax_core.specs.Submission.{rule_of}
 use Rattle.fax_dest.specs.Controls.{place_of, rule_at}
-use Rattle.fax_dest.specs.Setup.{admits, delay_of, has_modem}
+use Rattle.fax_dest.specs.Setup.{admits, delay_of}
 use Rattle.fax_dest.specs.declared.controls.Controls.{Controls}
 use Rattle.fax_rule.specs.declared.rule.Rule as dest
 use Rattle.fax_dest.specs.declared.setup.Setup.{Setup}
@@ -31,7 +31,7 @@ abbrev pub settings_of : Setup → Controls → Settings
 settings_of setup controls = record {
   rule = λ dial. machine_rule setup (rule_for controls dial);
   admits = admits setup;
-  has_modem = has_modem setup;
+  modems = setup.modems.items;
   delay = delay_of setup;
   max_jobs = setup.max_jobs;
   max_grants = setup.max_grants;

@@ -36,6 +36,7 @@ ghost use Rattle.fax_decide.specs.State.{may_call};
 use crate::decision::{Decision, answered, applied, take};
 use crate::effect::Effect;
 use crate::fault::Fault;
+use crate::held::held_grant;
 use crate::office::Office;
 use fax_ask::{Answer, Detail, Handed, Reply};
 use fax_core::{Change, Grant, fits, grant};
@@ -87,37 +88,10 @@ fn busy<S: Alter>(
         ≡ Decision.Refused (refused_response ModemBusy (HeldGrant (is_some g.call) (handed g (aged t m)))))) }
     ensures misfit { IfOk result IsBusyModem }
 {
-    let Some(grant) = store.grant(hold.grant)? else {
-        return Err(Fault::Strange);
-    };
-    let Some(job) = store.brief(hold.job)? else {
-        return Err(Fault::Strange);
-    };
-    held(alloc, &grant, &job, modem)
-}
-
-/// Whether a grant is open, of that job, and the modem's.
-fn is_held(grant: &Grant, job: &Job, modem: &Name) -> bool
-    ensures { result ≡ is_held_by modem.now job.now grant.now }
-{
-    grant.is_open && grant.job == job.fields().job && grant.modem.as_str() == modem.as_str()
-}
-
-/// The modem is told which grant of a job it holds. Where the grant is closed, or not the modem's or not of that job, as
-/// in no sound queue, nothing is decided.
-fn held(alloc: Global, grant: &Grant, job: &Job, modem: &Name) -> Result<Decision, Fault>
-    ensures told { (m : Queue) → is_held_by modem.now job.now grant.now ≡ true
-        → dial_of (job_numbered grant.now.job m) ≡ job.now.dial → OrNoAnswer result (λ decision. decision
-        ≡ Decision.Refused (refused_response ModemBusy (HeldGrant (is_some grant.now.call) (handed grant.now m)))) }
-    ensures misfit { is_held_by modem.now job.now grant.now ≡ false → IsErr result }
-    ensures busy { IfOk result IsBusyModem }
-{
-    if !is_held(grant, job, modem) {
-        return Err(Fault::Strange);
-    }
+    let (grant, job) = held_grant(store, hold, modem.as_str())?;
     let detail = Detail::Held {
         called: grant.call.is_some(),
-        handed: handed(grant, job),
+        handed: handed(&grant, &job),
     };
     Ok(Decision::Refused(Reply::refused_with(alloc, &detail)?))
 }

@@ -1,10 +1,10 @@
-//! What a client sees of the queue: a job, or the listing of all jobs.
+//! What a client sees of the queue: a job, the listing of all jobs or of the newest, or the modems.
 
 ghost use Rattle.std.specs.Prelude.{◌≡◌, [], ◌∷◌, ◌++◌, IfOk, OnOk, map};
 ghost use Rattle.std.specs.List.Sorted.{IsStrictlyIncreasing};
 ghost use Rattle.fax_ask.specs.Answer.{Listed, Shown};
 ghost use Rattle.fax_ask.specs.Response.{accepted_response};
-ghost use Rattle.fax_ask.specs.declared.view.View.TheVariants.{Job as OneJob, Jobs as AllJobs};
+ghost use Rattle.fax_ask.specs.declared.view.View.TheVariants.{Job as OneJob, Jobs as AllJobs, Newest as NewestJobs};
 ghost use Rattle.fax_core.specs.Ageing.{aged_job};
 ghost use Rattle.fax_core.specs.Job.{job_of};
 ghost use Rattle.fax_core.specs.State.{state as job_state};
@@ -14,9 +14,11 @@ ghost use Rattle.fax_text.specs.Listing.{listing_of, number_of};
 ghost use Rattle.fax_decide.specs.Fault.{OrNoAnswer};
 ghost use Rattle.fax_decide.specs.Looking.{Consults, Views};
 ghost use Rattle.fax_decide.specs.Settings.{settings_of};
-ghost use Rattle.fax_run.specs.View.{view, with_state};
+ghost use Rattle.fax_decide.specs.Newest.{HasNewest};
+ghost use Rattle.fax_run.specs.View.{newest, view, with_state};
 
 use crate::fault::Fault;
+use crate::modem_list::show_modems;
 use crate::office::Office;
 use crate::records::job_at;
 use crate::state::state_of;
@@ -27,6 +29,12 @@ use fax_store::Store;
 use fax_text::list;
 use sqlite::Alter;
 use std::alloc::{AllocError, Global};
+
+/// How many jobs are listed as the newest.
+const NEWEST: usize = 200;
+
+/// How many numbers below the next one are read first for these.
+const RECENT: u32 = 1000;
 
 /// What a client asks to see, of the queue as it is at `t`. Nothing is stored.
 ///
@@ -46,6 +54,8 @@ pub fn show<S: Alter>(
     match asked {
         View::Job { job } => show_job(store, office, alloc, job, t),
         View::Jobs => show_jobs(store, office, alloc, t),
+        View::Newest => show_newest(store, office, alloc, t),
+        View::Modems => show_modems(store, office, alloc),
     }
 }
 
@@ -108,6 +118,42 @@ fn show_jobs<S: Alter>(
     let jobs = store.briefs()?;
     let rows = with_states(store, office, alloc, jobs, t)?;
     Ok(listed(office, alloc, rows.as_slice())?)
+}
+
+/// The listing of the newest jobs, by copies aged at `t`, with their states there. Nothing is stored.
+fn show_newest<S: Alter>(
+    store: &mut Store<S>,
+    office: &Office,
+    alloc: Global,
+    t: Moment,
+) -> Result<Reply, Fault>
+    ensures { Views S.Store store.old store.new result
+        (λ m. view (settings_of office.now.setup office.now.controls) m t NewestJobs) }
+{
+    let jobs = recent(store)?;
+    let rows = with_states(store, office, alloc, jobs, t)?;
+    Ok(listed(office, alloc, newest(rows.as_slice()))?)
+}
+
+/// The jobs from some number on, without their extra lines: at least as many as are listed as the newest, or all. If
+/// numbers have no large gaps, at most [`RECENT`] jobs are read.
+fn recent<S: Alter>(store: &mut Store<S>) -> Result<Vec<Job>, Fault>
+    ensures { Consults S.Store store.old store.new result
+        (λ m. OrNoAnswer result (λ jobs. HasNewest m jobs.items)) }
+{
+    let next = store.meta()?.next_job;
+    let jobs = store.briefs_from(next.saturating_sub(RECENT))?;
+    if jobs.len() >= NEWEST {
+        return Ok(jobs);
+    }
+    Ok(store.briefs()?)
+}
+
+/// The last [`NEWEST`] of these, or all where there are fewer.
+fn newest(rows: &[(Job, u8)]) -> &[(Job, u8)]
+    ensures { result.now ≡ newest rows.now }
+{
+    &rows[rows.len().saturating_sub(NEWEST)..]
 }
 
 /// The jobs aged at `t`, each with the number of its state there.

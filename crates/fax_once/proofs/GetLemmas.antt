@@ -1,9 +1,8 @@
 -- A GET asks for a view.
 use Rattle.std.proofs.Common.{◌≡◌, ◌∙◌, ℕ, Bool, true, false, List, [], ◌∷◌, Option, Some, None, refl, sym, subst, if◌then◌else◌}
-use Rattle.std.specs.Prelude.{MatchOption, codes, length, option_and_then, ◌==◌}
+use Rattle.std.specs.Prelude.{MatchOption, codes, length, option_map, ◌==◌}
 use Rattle.std.specs.Str.{bytes_eq}
 use Rattle.fax_core.specs.declared.ask.Ask.{Ask}
-use Rattle.fax_value.specs.Number.{request_number_of}
 use Rattle.fax_ask.specs.declared.method.Method.{Method}
 use Rattle.fax_ask.specs.declared.method.Method.TheVariants.{Get}
 use Rattle.fax_ask.specs.declared.request.Request.{Request}
@@ -16,28 +15,34 @@ use Rattle.fax_ask.specs.Path.{parts}
 use Rattle.fax_job.specs.declared.refusal.Refusal.TheVariants.{NoRoute}
 use Rattle.fax_run.specs.Reading.{IsForRoute, IsReading, Post, Reading, Faulty, Posts}
 use Rattle.fax_run.specs.declared.arrival.Arrival.{Arrival}
-use Rattle.fax_ask.specs.Request.{grants_request, imports_request, job_request, jobs_request, modems_request, numbers_request, path_request, request_of, root_request}
+use Rattle.fax_ask.specs.Request.{grants_request, imports_request, job_request, job_view, jobs_request, modems_request, numbers_request, path_request, request_of, root_request}
 
 -- the request asks for a view
 IsShow : Request → Type 0
 IsShow r = (what : View) × (r ≡ Show what)
 
--- a GET of a job's path shows it
-of_job : (job : ℕ) (rest : List (List ℕ)) (r : Request) → job_request Get job rest ≡ Some r → IsShow r
+-- what a view asks for is one
+of_view : (found : Option View) (r : Request) → option_map Show found ≡ Some r → IsShow r
 unfolding IsShow
-of_job job [] r e = (view.Job job, cc)
-of_job job (x ∷ xs) r e = absurd cc
+of_view None r e = absurd cc
+of_view (Some what) r e = (what, cc)
 
--- the same whether the path has a job's number or not
-of_id : (found : Option ℕ) (rest : List (List ℕ)) (r : Request) → option_and_then (λ job. job_request Get job rest) found ≡ Some r → IsShow r
-of_id None rest r e = absurd cc
-of_id (Some job) rest r e = of_job job rest r e
+-- a GET of a job's path shows it, or the newest
+of_job : (id : List ℕ) (rest : List (List ℕ)) (r : Request) → job_request Get id rest ≡ Some r → IsShow r
+of_job id [] r e = of_view (job_view id) r e
+of_job id (x ∷ xs) r e = absurd cc
 
 -- a GET of the path of jobs shows them
 of_jobs : (rest : List (List ℕ)) (r : Request) → jobs_request Get rest ≡ Some r → IsShow r
 unfolding IsShow
 of_jobs [] r e = (view.Jobs, cc)
-of_jobs (id ∷ rest) r e = of_id (request_number_of id) rest r e
+of_jobs (id ∷ rest) r e = of_job id rest r e
+
+-- a GET of the path of modems shows these
+of_modems : (rest : List (List ℕ)) (r : Request) → modems_request Get rest ≡ Some r → IsShow r
+unfolding IsShow
+of_modems [] r e = (view.Modems, cc)
+of_modems (text ∷ rest) r e = absurd cc
 
 -- where there is no request, nothing is said of it
 none : (r : Request) → ◌≡◌ {A = Option Request} None (Some r) → IsShow r
@@ -53,7 +58,7 @@ of_root : (path : List (List ℕ)) (r : Request) → root_request Get path ≡ S
 of_root [] r e = none r e
 of_root (collection ∷ rest) r e =
     either (bytes_eq collection (codes "jobs")) (jobs_request Get rest) _ r (of_jobs rest r)
-    (either (bytes_eq collection (codes "modems")) (modems_request Get rest) _ r (none r) (either (bytes_eq collection (codes "grants")) (grants_request Get rest) _ r (none r)
+    (either (bytes_eq collection (codes "modems")) (modems_request Get rest) _ r (of_modems rest r) (either (bytes_eq collection (codes "grants")) (grants_request Get rest) _ r (none r)
     (either (bytes_eq collection (codes "imports")) (imports_request Get rest) _ r (none r)
     (either (bytes_eq collection (codes "numbers")) (numbers_request Get rest) None r (none r) (none r))))) e
 

@@ -16,7 +16,7 @@ use Rattle.fax_core.specs.Job.{Job}
 use Rattle.fax_core.specs.Machine.{act, brought_in, changed, on_grant, on_job, report_reply, step, submitted, with_both, with_job, with_mark, with_new_job}
 use Rattle.fax_core.specs.Queue.{Queue, grant_numbered, job_numbered}
 use Rattle.fax_core.specs.Reply.{Marked, NoKeys, Refused, Reply, Taken}
-use Rattle.fax_core.specs.Settings.{Rule, Settings}
+use Rattle.fax_core.specs.Settings.{Rule, Settings, has_modem}
 use Rattle.fax_core.specs.Sound.{Sound}
 use Rattle.fax_core.proofs.ImportLemmas.{bring_counts}
 use Rattle.fax_core.proofs.StepLemmas.{Best_to, GivenTo, None_to, aged_sound, given_is, taken_same}
@@ -83,7 +83,7 @@ act_brings : (s : Settings) (m n : Queue) (t : ℕ) (ask : Ask) (r : Reply) → 
 act_brings s m n t (Submission o) r h e x = submission_brings m n (s.rule o.dial) (submit o (s.rule o.dial) m.next_job s.max_jobs t) r e x
 act_brings s m n t (Bring i) r h e x = import_brings s m n t (s.rule i.order.dial) (bring i (s.rule i.order.dial) m.next_job s.max_jobs t) r (λ k is. (bring_counts i (s.rule i.order.dial) m.next_job s.max_jobs t k is).number) e x
 act_brings s m n t (OnJob a ask) r h e x = on_job_brings s m n t ask (job_numbered a m) r e x
-act_brings s m n t (Mark modem down) r h e x = mark_brings m n modem down (s.has_modem modem) r e x
+act_brings s m n t (Mark modem down) r h e x = mark_brings m n modem down (has_modem s modem) r e x
 act_brings s m n t (Next modem) r h e x = given_brings s m n t modem r (given_is s m t modem n r h e) x
 act_brings s m n t (OnGrant a report) r h e x = report_brings s m n t report (grant_numbered a m) r e x
 act_brings s m n t (GiveUp upto) r h e x = ap (λ (q : Reply). brings q x) (sym (taken_same m n _ r e).1)

@@ -163,6 +163,8 @@ module _ (accepted : AcceptedAre200Or201) (alone : OnlyUnavailableIs503) (met : 
   unfolding IsOther
   of_sight q t (sight.Job n) = of_view q t (job_numbered n q)
   of_sight q t sight.Jobs = other_number 200 (inl refl)
+  of_sight q t sight.Newest = other_number 200 (inl refl)
+  of_sight q t sight.Modems = other_number 200 (inl refl)
 
   -- no fault of an arrival is want of the store
   of_cause : (refusal : Refusal) → Cause a refusal → refusal ≢ Unavailable

@@ -21,7 +21,7 @@ use Rattle.fax_core.specs.Machine.{act, brought_in, changed, on_job, step, submi
 use Rattle.fax_core.specs.Queue.{Queue, grant_numbered, job_numbered}
 use Rattle.fax_core.specs.Reply.{Marked, NoKeys, Refused, Reply, Step, Taken}
 use Rattle.fax_core.specs.Run.{left_by}
-use Rattle.fax_core.specs.Settings.{Rule, Settings}
+use Rattle.fax_core.specs.Settings.{Rule, Settings, has_modem}
 use Rattle.fax_core.specs.Sound.{Sound}
 use Rattle.fax_core.proofs.DecisionLemmas.{not_refused, ok_same}
 use Rattle.fax_core.proofs.KeepLemmas.{numbered_grant}
@@ -177,7 +177,7 @@ act_grants : (s : Settings) (m n : Queue) (t : ℕ) (ask : Ask) (r : Reply) → 
 act_grants s m n t (Submission o) r h e = submission_grants m n (s.rule o.dial) (submit o (s.rule o.dial) m.next_job s.max_jobs t) r e
 act_grants s m n t (Bring i) r h e = import_grants s m n t (s.rule i.order.dial) (bring i (s.rule i.order.dial) m.next_job s.max_jobs t) r e
 act_grants s m n t (OnJob a ask) r h e = on_job_grants s m n t ask (job_numbered a m) r e
-act_grants s m n t (Mark modem down) r h e = mark_grants m n modem down (s.has_modem modem) r e
+act_grants s m n t (Mark modem down) r h e = mark_grants m n modem down (has_modem s modem) r e
 act_grants s m n t (Next modem) r h e = given_grants s m n t modem r (given_is s m t modem n r h e)
 act_grants s m n t (OnGrant a report) r h e = report_grants s m n t a report (on_grant_is s m t a report (grant_numbered a m) n r refl e)
 act_grants s m n t (GiveUp upto) r h e = kept_all m n (ap (λ (q : Queue). q.grants) (sym (taken_same m n _ r e).0))

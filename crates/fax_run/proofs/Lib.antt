@@ -21,4 +21,6 @@ mod ProgressLemmas
 mod RowsOneList
 mod RowsProgress
 mod RowsReading
+mod RowsView
+pub mod NameLemmas
 pub mod FedLemmas

@@ -22,7 +22,7 @@ use Rattle.fax_core.specs.Machine as machine
 use Rattle.fax_core.specs.Machine.{act, brought_in, changed, handed, on_job, report_reply, step, submitted, with_both, with_job, with_mark, with_new_grant, with_new_job}
 use Rattle.fax_core.specs.Queue.{Queue, grant_numbered, job_numbered}
 use Rattle.fax_core.specs.Reply.{Brought, Given, Marked, NoKeys, NoneToSend, Refused, Reply, Submitted, Taken}
-use Rattle.fax_core.specs.Settings.{Rule, Settings}
+use Rattle.fax_core.specs.Settings.{Rule, Settings, has_modem}
 use Rattle.fax_core.specs.Sound.{IsJob, Sound}
 use Rattle.fax_core.specs.State.{state}
 use Rattle.fax_core.proofs.DecisionLemmas.{aged_number, asked_in}
@@ -292,7 +292,7 @@ act_moves : (s : Settings) (m n : Queue) (t : ℕ) (ask : Ask) (r : Reply) → S
 act_moves s m n t (Submission o) r h e = submission_moves m n o (s.rule o.dial) s.max_jobs t (submit o (s.rule o.dial) m.next_job s.max_jobs t) r refl e
 act_moves s m n t (Bring i) r h e = import_moves s m n i (s.rule i.order.dial) s.max_jobs t (bring i (s.rule i.order.dial) m.next_job s.max_jobs t) r refl e
 act_moves s m n t (OnJob a ask) r h e = on_job_moves s m n t a ask (job_numbered a m) r refl e
-act_moves s m n t (Mark modem down) r h e = mark_moves m n (Mark modem down) modem down (s.has_modem modem) r (λ x. refl) e
+act_moves s m n t (Mark modem down) r h e = mark_moves m n (Mark modem down) modem down (has_modem s modem) r (λ x. refl) e
 act_moves s m n t (Next modem) r h e = given_moves s m n t modem r h (given_is s m t modem n r h e)
 act_moves s m n t (OnGrant a report) r h e = on_grant_moves s m n t a report r e
 act_moves s m n t (GiveUp upto) r h e =

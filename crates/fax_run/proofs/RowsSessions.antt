@@ -1,11 +1,10 @@
 -- Worked rows of sessions: a restart by another setup, and a session that was broken off. Of sessions and of what was heard the newest comes first.
 use Rattle.std.proofs.Common.{arith, inl, inr, ap, subst, ◌∙◌}
 use Rattle.std.specs.Prelude.{◌≡◌, ◌⊎◌, refl, ℕ, List, [], ◌∷◌, ◌++◌, false, map, codes}
-use Rattle.std.specs.Str.{bytes_eq}
 use Rattle.fax_job.specs.declared.refusal.Refusal.TheVariants.{NoModem, Unavailable}
 use Rattle.fax_core.specs.declared.ask.Ask.TheVariants.{Next}
 use Rattle.fax_core.specs.Reply.{Given, Submitted}
-use Rattle.fax_core.specs.Settings.{Settings}
+use Rattle.fax_core.specs.Settings.{Settings, has_modem}
 use Rattle.fax_core.proofs.RowWords.{hand, settings, ttyS0, ttyS1}
 use Rattle.fax_run.proofs.RowsRuns.{accepted, desk, fax, lab, post, refused, start, submitted, unknown_modem, worker}
 use Rattle.fax_run.specs.Reading.{IsReading, Reading}
@@ -18,7 +17,7 @@ use Rattle.fax_run.specs.declared.arrival.Arrival.{Arrival}
 
 -- a setup in which one modem is gone
 abbrev other : Settings
-other = record settings { has_modem = λ modem. bytes_eq modem ttyS1 }
+other = record settings { modems = ttyS1 ∷ [] }
 
 -- a worker of the lab asks for work
 abbrev asks : List ℕ → Reading
@@ -55,7 +54,7 @@ restart_row a b c says_fax says_old says_new = (
 )
 
 -- what was taken of the second was fed under its own setup
-other_setup_row : map (λ f. f.settings.has_modem ttyS0) (taken other day (asks ttyS1 ∷ asks ttyS0 ∷ [])) ≡ false ∷ []
+other_setup_row : map (λ f. has_modem f.settings ttyS0) (taken other day (asks ttyS1 ∷ asks ttyS0 ∷ [])) ≡ false ∷ []
 other_setup_row = refl
 
 -- so one list leads where both sessions lead

@@ -1,5 +1,6 @@
 pub mod Arrival
 pub mod Reading
+pub mod Modems
 pub mod View
 pub mod Verdict
 pub mod Run

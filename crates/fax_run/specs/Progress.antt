@@ -8,7 +8,7 @@ use Rattle.fax_core.specs.Job.{Job}
 use Rattle.fax_core.specs.Machine.{handed, held_by, is_down, step}
 use Rattle.fax_core.specs.Queue.{Queue, grant_numbered}
 use Rattle.fax_core.specs.Reply.{Given, Handed, HeldGrant, Refused, Reply, Taken}
-use Rattle.fax_core.specs.Settings.{Settings}
+use Rattle.fax_core.specs.Settings.{Settings, has_modem}
 use Rattle.fax_core.specs.Sound.{IsOpen, Sound}
 use Rattle.fax_core.specs.State.{calls_to, state, state_number}
 use Rattle.fax_core.specs.declared.ask.Ask.TheVariants.{Next, OnGrant}
@@ -19,7 +19,7 @@ use Rattle.fax_core.specs.declared.state.State.TheVariants.{Ready}
 
 -- the modem is one of the setup, and isn't down
 pub record IsUp (s : Settings) (m : Queue) (modem : List ℕ) : Type 0 where
-  pub known : s.has_modem modem ≡ true
+  pub known : has_modem s modem ≡ true
   pub up : is_down modem m ≡ false
 
 -- a modem that is up and holds no grant is given a job where one may go to it, as long as a number for its grant is left

@@ -15,12 +15,12 @@ use Rattle.sqlite_tied.specs.Compute.{everything}
 use Rattle.sqlite_value.specs.Keys.{ascending}
 use Rattle.sqlite_value.specs.declared.keys.Key.{Key}
 use Rattle.fax_value.specs.Status.{kill_time_expired}
-use Rattle.fax_schema.specs.declared.statements.TheConstants.{SELECT_DIAL, SELECT_HELD, SELECT_LOST, SELECT_VERSION, UPDATE_VERSION}
+use Rattle.fax_schema.specs.declared.statements.TheConstants.{SELECT_DIAL, SELECT_HELD, SELECT_HOLDERS, SELECT_LOST, SELECT_VERSION, UPDATE_VERSION}
 use Rattle.fax_schema.specs.declared.statements.TheConstants.{CREATE_JOBS, CREATE_REPLIES, CREATE_META, INSERT_META}
 use Rattle.fax_schema.specs.declared.statements.TheConstants.{SELECT_META, UPDATE_CLOCK, UPDATE_META}
 use Rattle.fax_schema.specs.declared.statements.TheConstants.{SELECT_REPLY, INSERT_REPLY}
 use Rattle.fax_schema.specs.declared.statements.TheConstants.{SELECT_FIRST, SELECT_BEHIND_NUMBER, SELECT_BEHIND_TIME, SELECT_BEHIND_PRIORITY}
-use Rattle.fax_schema.specs.declared.statements.TheConstants.{SELECT_JOB, SELECT_BRIEF, INSERT_JOB, UPDATE_JOB, SELECT_EXPIRED, EXPIRE_JOBS, SELECT_WAITING, SELECT_JOBS, SELECT_BRIEFS}
+use Rattle.fax_schema.specs.declared.statements.TheConstants.{SELECT_JOB, SELECT_BRIEF, INSERT_JOB, UPDATE_JOB, SELECT_EXPIRED, EXPIRE_JOBS, SELECT_WAITING, SELECT_BRIEFS, SELECT_BRIEFS_FROM}
 use Rattle.fax_schema.proofs.SelectLemmas.{rows_by, rows_where}
 use Rattle.fax_schema.proofs.UpdateLemmas.{program_of}
 use Rattle.fax_schema.proofs.StatementForms.{equals, Makes, Selects, SelectsAll, SelectsBy, Commands}
@@ -107,6 +107,14 @@ held_project = col 1 2 ∷ []
 pub select_held : Selects SELECT_HELD.now holds_tree [] held_project (codes "job" ∷ [])
 unfolding understood everything
 select_held = record { command = refl; plain = (refl, refl); unlisted = refl }
+
+abbrev pub holders_project : List Term
+holders_project = col 1 1 ∷ []
+
+-- SELECT_HOLDERS reads the modem of each hold
+pub select_holders : Selects SELECT_HOLDERS.now holds_tree [] holders_project (codes "modem" ∷ [])
+unfolding understood everything
+select_holders = record { command = refl; plain = (refl, refl); unlisted = refl }
 
 abbrev pub dial_project : List Term
 dial_project = col 1 2 ∷ []
@@ -280,15 +288,18 @@ select_behind_priority = record { command = refl; plain = (refl, refl); unlisted
 abbrev pub jobs_order : List (Term × Key)
 jobs_order = (col 1 0, ascending Binary) ∷ []
 
--- SELECT_JOBS reads all jobs by number, whole
-pub select_jobs : SelectsBy SELECT_JOBS.now jobs_tree [] job_project jobs_order job_names
-unfolding understood everything
-select_jobs = record { command = refl; plain = (refl, refl); unlisted = refl }
-
--- SELECT_BRIEFS reads them without their extra lines
+-- SELECT_BRIEFS reads all jobs by number, without their extra lines
 pub select_briefs : SelectsBy SELECT_BRIEFS.now jobs_tree [] brief_project jobs_order brief_names
 unfolding understood everything
 select_briefs = record { command = refl; plain = (refl, refl); unlisted = refl }
+
+abbrev pub from_tests : List Term
+from_tests = op2 (Compare Ge Binary) (col 1 0) (col 0 0) ∷ []
+
+-- SELECT_BRIEFS_FROM reads those from a number on
+pub select_briefs_from : SelectsBy SELECT_BRIEFS_FROM.now jobs_tree from_tests brief_project jobs_order brief_names
+unfolding understood everything
+select_briefs_from = record { command = refl; plain = (refl, refl); unlisted = refl }
 
 -- INSERT_META puts the row of an empty store into meta
 pub insert_meta : Commands INSERT_META.now

@@ -65,13 +65,14 @@ pub const SELECT_WAITING: &str =
     FROM jobs WHERE phase = 1 AND tts <= ?1 AND next <= ?1 AND (killtime = 0 OR killtime > ?1) \
     ORDER BY priority, tts, job";
 
-pub const SELECT_JOBS: &str = "SELECT job, dial, modem, jobtag, status, tts, killtime, priority, \
-    npages, totpages, ntries, tottries, maxtries, ndials, totdials, maxdials, phase, wish, next, extra \
-    FROM jobs ORDER BY job";
-
 pub const SELECT_BRIEFS: &str = "SELECT job, dial, modem, jobtag, status, tts, killtime, priority, \
     npages, totpages, ntries, tottries, maxtries, ndials, totdials, maxdials, phase, wish, next \
     FROM jobs ORDER BY job";
+
+pub const SELECT_BRIEFS_FROM: &str =
+    "SELECT job, dial, modem, jobtag, status, tts, killtime, priority, \
+    npages, totpages, ntries, tottries, maxtries, ndials, totdials, maxdials, phase, wish, next \
+    FROM jobs WHERE job >= ?1 ORDER BY job";
 
 pub const UPDATE_JOB: &str = "UPDATE jobs SET modem = ?2, jobtag = ?3, status = ?4, tts = ?5, \
     killtime = ?6, priority = ?7, npages = ?8, ntries = ?9, tottries = ?10, maxtries = ?11, \
@@ -182,5 +183,7 @@ pub const SELECT_LOST: &str =
     "SELECT holds.id FROM holds LEFT JOIN jobs ON jobs.job = holds.job WHERE jobs.job IS NULL";
 
 pub const SELECT_HELD: &str = "SELECT job FROM holds";
+
+pub const SELECT_HOLDERS: &str = "SELECT modem FROM holds";
 
 pub const SELECT_DIAL: &str = "SELECT dial FROM jobs WHERE job = ?1";

@@ -1,12 +1,12 @@
--- What the texts show by which a store counts what is held.
-use Rattle.std.proofs.Common.{◌≡◌, inl, inr, ◌<◌, ◌^◌, ◌+◌, ℕ, List, [], ◌∷◌, ◌++◌, map, filter, flat_map, drop, take, length, Bool, true, false, cond, ◌&&◌, Option, Some, codes, refl, sym, ap, ap₂, subst, ◌∙◌, arith, length-append, ◌==◌, option_map, bytes_eq, IsPermutation}
+-- What the texts show by which a store counts what is held, and by whom.
+use Rattle.std.proofs.Common.{◌≡◌, inl, inr, ◌<◌, ◌^◌, ◌+◌, ℕ, suc, List, [], ◌∷◌, ◌++◌, All, map, filter, flat_map, drop, take, length, Bool, true, false, cond, ◌&&◌, Option, Some, codes, refl, sym, ap, ap₂, subst, ◌∙◌, arith, length-append, ◌==◌, option_map, bytes_eq, IsPermutation}
 use Rattle.std.proofs.Math.Path.{fun_ext}
 use Rattle.std.proofs.lemmas.List.Sums.{count_by-le-length, length-filter}
 use Rattle.std.proofs.lemmas.List.{nil_from_length, length-take}
 use Rattle.std.specs.List.{list_all}
 use Rattle.std.proofs.lemmas.Bool.{eqb-true, and_parts, false_from_ne_true}
-use Rattle.std.proofs.lemmas.List.Elements.{recursion_from_All, filter-append}
-use Rattle.std.proofs.lemmas.List.Sorted.{IsPermutation-map, IsPermutation-sym, IsPermutation-trans, length_permutation}
+use Rattle.std.proofs.lemmas.List.Elements.{All-map, All-weaker, recursion_from_All, filter-append}
+use Rattle.std.proofs.lemmas.List.Sorted.{All-permutation, IsPermutation-map, IsPermutation-sym, IsPermutation-trans, length_permutation}
 use Rattle.sqlite.specs.Effect.{Database}
 use Rattle.sqlite.specs.Order.{Row, column}
 use Rattle.sqlite.specs.Program.{overlay}
@@ -23,34 +23,37 @@ use Rattle.sqlite_catalog.specs.Change.{KeepsRows}
 use Rattle.sqlite_sql.specs.Ops.{binary, is_null, is_true}
 use Rattle.sqlite_sql.specs.declared.ops.BinaryOp.TheVariants.{Is}
 use Rattle.sqlite.specs.Collation.TheVariants.{Binary}
-use Rattle.sqlite_sql.specs.Term.{Env, holds}
+use Rattle.sqlite_sql.specs.Term.{Env, col, holds}
 use Rattle.sqlite_value.specs.Order.{value_cmp}
-use Rattle.sqlite_trees.proofs.ListLemmas.{IsPermutation-filter, filter-map, map-map, all_of, filter_all}
+use Rattle.sqlite_trees.proofs.ListLemmas.{IsPermutation-filter, filter-map, map-map, all_of, filter_all, pull_back}
 use Rattle.fax_core.specs.Job.{Job}
 use Rattle.fax_core.specs.Ledger.{Ledger}
 use Rattle.fax_core.specs.Queue.{Queue, job_numbered, open_grants}
 use Rattle.fax_core.specs.State.{calls_to, is_of_number}
 use Rattle.fax_core.specs.declared.grants.Grant.{Grant}
 use Rattle.fax_store.specs.Adopt.{AreCallable, AreOfJobs, AreSmall, CanBeCalled, CoreMeans, HoldJobs, HoldsCanBeCalled, IsOf, held_to, is_to}
-use Rattle.fax_store.specs.Grant.{SetsCalls, with_count}
+use Rattle.fax_store.specs.Grant.{HoldersStand, SetsCalls, with_count}
 use Rattle.fax_store.specs.Store.{FindsRow}
-use Rattle.fax_schema.specs.declared.statements.TheConstants.{SELECT_DIAL, SELECT_HELD, SELECT_LOST}
+use Rattle.fax_schema.specs.declared.statements.TheConstants.{SELECT_DIAL, SELECT_HELD, SELECT_HOLDERS, SELECT_LOST}
 use Rattle.fax_value.specs.Dial.{IsCanonical}
+use Rattle.fax_value.specs.Name.{IsName}
+use Rattle.fax_tables.specs.Grant.{holder_shown}
 use Rattle.fax_tables.specs.Job.{IsLawfulJob, IsText}
 use Rattle.fax_tables.specs.Row.{number, hold_columns}
 use Rattle.fax_schema.specs.Schema.{alike_list, calls_tree, holds_tree, jobs_tree, our_tables, core_tables}
-use Rattle.fax_tables.specs.Tables.{TablesMean}
-use Rattle.fax_schema.proofs.ColumnLemmas.{record_of}
+use Rattle.fax_tables.specs.Tables.{IsLawfulGrant, TablesMean}
+use Rattle.fax_schema.proofs.ColumnLemmas.{all_kept, record_of}
 use Rattle.fax_schema.proofs.CompareLemmas.{are_equal, number_same}
 use Rattle.fax_tables.proofs.CreateLemmas.{kept_rows}
 use Rattle.fax_schema.proofs.EditLemmas.{has_mapped, has_permuted, none_shown, shown_one}
 use Rattle.fax_tables.proofs.IndexLemmas.{length_map}
 use Rattle.fax_tables.proofs.KeyLemmas.{found_holds, numbered_found}
 use Rattle.fax_schema.proofs.SelectLemmas.{answers, passes, show}
+use Rattle.fax_schema.proofs.StatementForms.{Selects}
 use Rattle.fax_tables.proofs.TablesLemmas.{counted_as, row_of, rows_mean}
 use Rattle.fax_store.proofs.CandidateLemmas.{within}
 use Rattle.fax_store.proofs.CountLemmas.{at_most_all, grants_few, one, one_more}
-use Rattle.fax_schema.proofs.StatementTexts.{dial_project, held_project, job_tests, lost_on, lost_query, lost_tests, select_dial, select_held, select_lost}
+use Rattle.fax_schema.proofs.StatementTexts.{dial_project, job_tests, lost_on, lost_query, lost_tests, select_dial, select_held, select_holders, select_lost}
 
 -- ---- a hold whose job isn't there
 
@@ -173,20 +176,39 @@ module _ (n : ℕ) (old new : State) (has : old.now.schema ≡ our_tables) (can 
       let on : asked can.job ≡ true = ap (λ b. b && true) can.is in
       absurd (let e = sym on ∙ off in cc)
 
--- ---- what is held
+-- ---- a column of the holds
 
--- the third column is the second behind the rowid
-second : (r : Row) → column r 2 ≡ column (drop 1 r) 1
-second [] = refl
-second (v ∷ r) = refl
+-- a column is one of those after the rowid
+after_rowid : (r : Row) (at : ℕ) → column r (suc at) ≡ column (drop 1 r) at
+after_rowid [] at = refl
+after_rowid (v ∷ r) at = refl
+
+-- a text that reads one column of each hold
+module _ (at : ℕ) (sql name : List ℕ) (selects : Selects sql holds_tree [] (col 1 (suc at) ∷ []) (name ∷ [])) (old new : State) (has : old.now.schema ≡ our_tables) (rows : List Row) (shown : Shown sql [] old new rows) where
+  abbrev holds_rows : List Row
+  holds_rows = old.now.trees holds_tree
+
+  -- it shows that of each, in any order
+  column_shown : IsPermutation (map (λ r. column r (suc at) ∷ []) holds_rows) rows
+  column_shown =
+      subst (λ t. IsPermutation (map (λ r. column r (suc at) ∷ []) t) rows) (filter_all (λ _. true) holds_rows (all_of _ (λ _. refl) holds_rows))
+      (answers holds_tree [] (col 1 (suc at) ∷ []) [] old.now holds_rows refl (name ∷ []) rows (reads_as sql [] old new our_tables has _ selects.command selects.plain selects.unlisted rows shown))
+
+  -- where the rows of holds are the open grants, it shows that of each grant, in any order
+  column_of_grants : (m : Queue) → IsPermutation (map hold_columns (open_grants m)) (map (drop 1) holds_rows) → IsPermutation (map (λ (g : Grant). column (hold_columns g) at ∷ []) (open_grants m)) rows
+  column_of_grants m same =
+      let by_columns = IsPermutation-map (λ columns. column columns at ∷ []) (map hold_columns (open_grants m)) (map (drop 1) holds_rows) same in
+      let left = map-map (λ columns. column columns at ∷ []) hold_columns (open_grants m) in
+      let right = map-map (λ columns. column columns at ∷ []) (drop 1) holds_rows ∙ ap (λ of. map of holds_rows) (fun_ext (λ r. ap (λ v. v ∷ []) (sym (after_rowid r at)))) in
+      IsPermutation-trans (map (λ (g : Grant). column (hold_columns g) at ∷ []) (open_grants m)) (map (λ r. column r (suc at) ∷ []) holds_rows) rows
+      (subst (λ xs. IsPermutation xs (map (λ r. column r (suc at) ∷ []) holds_rows)) left (subst (IsPermutation (map (λ columns. column columns at ∷ []) (map hold_columns (open_grants m)))) right by_columns)) column_shown
+
+-- ---- the jobs of what is held
 
 module _ (old new : State) (has : old.now.schema ≡ our_tables) (rows : List Row) (shown : Shown SELECT_HELD.now [] old new rows) where
   -- the text shows the job numbers of the holds, in any order
   held_shown : IsPermutation (map (λ r. column r 2 ∷ []) (old.now.trees holds_tree)) rows
-  held_shown =
-      subst (λ t. IsPermutation (map (λ r. column r 2 ∷ []) t) rows)
-      (filter_all (λ _. true) (old.now.trees holds_tree) (all_of _ (λ _. refl) (old.now.trees holds_tree)))
-      (answers holds_tree [] held_project [] old.now (old.now.trees holds_tree) refl (codes "job" ∷ []) rows (reads_as SELECT_HELD.now [] old new our_tables has _ select_held.command select_held.plain select_held.unlisted rows shown))
+  held_shown = column_shown 1 SELECT_HELD.now (codes "job") select_held old new has rows shown
 
   -- each row is of a hold
   held_of : (row : Row) → Has rows row → (hold : Row) × Has (old.now.trees holds_tree) hold × (row ≡ column hold 2 ∷ [])
@@ -216,16 +238,11 @@ module _ (old new : State) (m : Queue) (k : Ledger) (has : old.now.schema ≡ ou
       let g = record_of hold_columns held (open_grants m) same hold.0 hold.1 in
       let j = mean.1.held g.0 g.1 in
       let of : (j.0).number ≡ (g.0).job = eqb-true (j.0).number (g.0).job (has_found (λ (x : Job). x.number == (g.0).job) m.jobs j.0 j.1).1 in
-      (j.0, hold.2 ∙ ap (λ v. v ∷ []) (second hold.0 ∙ ap (λ columns. column columns 1) g.2 ∙ ap number (sym of)), subst (λ n. job_numbered n m ≡ Some j.0) (sym of) j.1)
+      (j.0, hold.2 ∙ ap (λ v. v ∷ []) (after_rowid hold.0 1 ∙ ap (λ columns. column columns 1) g.2 ∙ ap number (sym of)), subst (λ n. job_numbered n m ≡ Some j.0) (sym of) j.1)
 
   -- there are as many rows as open grants
   permuted : IsPermutation (map (λ (g : Grant). number g.job ∷ []) (open_grants m)) rows
-  permuted =
-      let by_columns = IsPermutation-map (λ columns. column columns 1 ∷ []) (map hold_columns (open_grants m)) (map (drop 1) held) same in
-      let left = map-map (λ columns. column columns 1 ∷ []) hold_columns (open_grants m) in
-      let right = map-map (λ columns. column columns 1 ∷ []) (drop 1) held ∙ ap (λ of. map of held) (fun_ext (λ r. ap (λ v. v ∷ []) (sym (second r)))) in
-      IsPermutation-trans (map (λ (g : Grant). number g.job ∷ []) (open_grants m)) (map (λ r. column r 2 ∷ []) held) rows
-      (subst (λ xs. IsPermutation xs (map (λ r. column r 2 ∷ []) held)) left (subst (IsPermutation (map (λ columns. column columns 1 ∷ []) (map hold_columns (open_grants m)))) right by_columns)) (held_shown old new has rows shown)
+  permuted = column_of_grants 1 SELECT_HELD.now (codes "job") select_held old new has rows shown m same
 
   -- there are fewer than 2 ^ 32 of them
   pub held_few : length rows < 2 ^ 32
@@ -249,6 +266,32 @@ module _ (old new : State) (m : Queue) (k : Ledger) (has : old.now.schema ≡ ou
       let kept = subst (λ d. KeepsRows core_tables.tables d.trees last.now.trees) still set.rows in
       rows_mean mean.0 last.now m k set.schema_is set.sound (kept_rows core_tables.tables (mean.0).trees old.now.trees last.now.trees mean.2 kept)
       (record { is = counted_as (held_to m rows) (λ dial. calls_to dial m) (map (drop 1) (last.now.trees calls_tree)) held_counts set.calls.is; ordered = set.calls.ordered }) mean.1
+
+-- ---- the modems that hold a grant
+
+module _ (old new : State) (rows : List Row) (shown : Shown SELECT_HOLDERS.now [] old new rows) where
+  -- the text shows the modems of the open grants, each a name, in any order
+  pub holders_found : (m : Queue) (k : Ledger) → TablesMean old.now m k
+      → (names : List (List ℕ)) × (rows ≡ map holder_shown names) × IsPermutation (map (λ (g : Grant). g.modem) (open_grants m)) names × All IsName names
+  holders_found m k means =
+      let modem = λ (g : Grant). g.modem in
+      let modems = map modem (open_grants m) in
+      let permuted = column_of_grants 0 SELECT_HOLDERS.now (codes "modem") select_holders old new means.schema rows shown m means.holds in
+      let back = pull_back holder_shown (map (λ g. holder_shown (modem g)) (open_grants m)) rows permuted modems (sym (map-map holder_shown modem (open_grants m))) in
+      let lawful = All-weaker IsLawfulGrant (λ g. IsName (modem g)) (λ g of. of.modem) (open_grants m) (all_kept IsLawfulGrant (λ g. g.is_open) m.grants means.lawful.grants) in
+      (back.0, back.2, back.1, All-permutation IsName modems back.0 back.1 (All-map IsName modem (open_grants m) lawful))
+
+  -- whatever the rows say, it shows the modem of each, in any order
+  pub holders_shown : (db : Database) → db.schema ≡ our_tables → old.now ≡ db → (names : List (List ℕ)) → map (take 1) rows ≡ map holder_shown names → HoldersStand db names
+  holders_shown db ours now names is =
+      let first = λ (row : Row). column (take 1 row) 0 in
+      let table = old.now.trees holds_tree in
+      let permuted = column_shown 0 SELECT_HOLDERS.now (codes "modem") select_holders old new (ap (λ (d : Database). d.schema) now ∙ ours) rows shown in
+      let left = map-map first (λ (r : Row). column r 1 ∷ []) table in
+      let right = sym (map-map (λ (row : Row). column row 0) (take 1) rows) ∙ ap (map (λ (row : Row). column row 0)) is ∙ map-map (λ (row : Row). column row 0) holder_shown names in
+      subst (λ (d : Database). IsPermutation (map (λ r. column r 1) (d.trees holds_tree)) (map Text names)) now
+      (subst (λ values. IsPermutation values (map Text names)) left
+      (subst (IsPermutation (map first (map (λ (r : Row). column r 1 ∷ []) table))) right (IsPermutation-map first (map (λ (r : Row). column r 1 ∷ []) table) rows permuted)))
 
 -- ---- one more row
 
@@ -311,7 +354,7 @@ rows_callable db m k mean hold there_is =
     let j = mean.1.held g.0 g.1 in
     let one = has_found (λ (x : Job). x.number == (g.0).job) m.jobs j.0 j.1 in
     let of : (j.0).number ≡ (g.0).job = eqb-true (j.0).number (g.0).job one.1 in
-    let is : column hold 2 ≡ number (j.0).number = second hold ∙ ap (λ columns. column columns 1) g.2 ∙ ap number (sym of) in
+    let is : column hold 2 ≡ number (j.0).number = after_rowid hold 1 ∙ ap (λ columns. column columns 1) g.2 ∙ ap number (sym of) in
     let rows : db.trees jobs_tree ≡ map row_of m.jobs = mean.2.0 ∙ mean.1.jobs in (
       (j.0).number,
       is,

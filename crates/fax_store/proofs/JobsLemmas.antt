@@ -1,5 +1,5 @@
 -- What the texts on all jobs read, in the one order in which their numbers don't fall, and those on the jobs that wait.
-use Rattle.std.proofs.Common.{◌≡◌, ◌<◌, ◌+◌, ℕ, pos, List, [], map, take, filter, true, nat_lt, get_or, refl, sym, ap, ap₂, subst, ◌∙◌, arith, ◌∷◌, ◌++◌, Bool, not, All, ◌&&◌, ◌||◌, Option, Some, None, unwrap_or, Ordering, Less, Equal, IsPermutation, IsSorted, IsSortedBy, ◌==◌, nat_le}
+use Rattle.std.proofs.Common.{◌≡◌, ◌<◌, ◌+◌, ℕ, pos, List, [], map, take, filter, true, nat_lt, get_or, refl, sym, ap, ap₂, subst, ◌∙◌, arith, ◌∷◌, ◌++◌, Bool, not, All, ◌&&◌, ◌||◌, Option, Some, None, unwrap_or, Ordering, Less, Equal, Greater, IsPermutation, IsSorted, IsSortedBy, ◌==◌, nat_le}
 use Rattle.std.specs.Ordering.{is_lt, int_cmp, nat_cmp, on, ordering_then, is_eq, is_gt}
 use Rattle.std.proofs.lemmas.Bool.Decides.{nat_tests}
 use Rattle.std.proofs.lemmas.Cmp.{nat_cmp_total, on_total}
@@ -14,12 +14,19 @@ use Rattle.sqlite.specs.Tree.{rowid, IsTable}
 use Rattle.sqlite.proofs.Callers.{reads_as}
 use Rattle.sqlite_trees.specs.Tree.{IsAscending}
 use Rattle.sqlite_trees.proofs.ListLemmas.{map-map, filter_all, all_of, pull_back, ascending_from_map, ascending_weaker, filter-map, filter_same}
+use Rattle.sqlite.specs.Collation.TheVariants.{Binary}
+use Rattle.sqlite.specs.declared.types.Value.{Value}
+use Rattle.sqlite.specs.declared.types.Value.TheVariants.{Null, Int, Real, Text, Blob}
+use Rattle.sqlite_catalog.proofs.LayoutLemmas.{ascending_filter}
+use Rattle.sqlite_sql.specs.declared.ops.BinaryOp.TheVariants.{Compare}
+use Rattle.sqlite_sql.specs.declared.ops.CompareOp.TheVariants.{Ge}
+use Rattle.sqlite_sql.specs.Ops.{binary, is_true, test}
 use Rattle.sqlite_value.specs.Order.{value_cmp}
 use Rattle.sqlite_value.proofs.OrderLemmas.{value_cmp-Int}
 use Rattle.fax_core.specs.Job.{Job, fields_of}
 use Rattle.fax_core.specs.Ledger.{Ledger}
 use Rattle.fax_core.specs.Queue.{Queue}
-use Rattle.fax_schema.specs.declared.statements.TheConstants.{SELECT_JOBS, SELECT_BRIEFS, SELECT_WAITING}
+use Rattle.fax_schema.specs.declared.statements.TheConstants.{SELECT_BRIEFS, SELECT_BRIEFS_FROM, SELECT_WAITING}
 use Rattle.fax_tables.specs.Job.{brief_shown, job_shown, IsLawfulJob}
 use Rattle.fax_schema.specs.Schema.{our_tables, jobs_tree}
 use Rattle.fax_tables.specs.Tables.{TablesMean}
@@ -29,8 +36,8 @@ use Rattle.fax_schema.proofs.SelectLemmas.{rows_by, passes, show, put_out, in_or
 use Rattle.fax_schema.proofs.StatementForms.{SelectsBy}
 use Rattle.fax_tables.proofs.TablesLemmas.{row_of}
 use Rattle.fax_job.specs.declared.job.JobFields.{JobFields}
-use Rattle.fax_store.specs.Job.{AreWaiting, BriefsStand, JobsStand, brief_places, job_places}
-use Rattle.fax_schema.proofs.StatementTexts.{brief_names, brief_project, job_names, job_project, jobs_order, select_briefs, select_jobs, waiting_tests, waiting_order, select_waiting}
+use Rattle.fax_store.specs.Job.{AreInRows, AreWaiting, BriefsStand, BriefsStandFrom, brief_places, is_from, jobs_from}
+use Rattle.fax_schema.proofs.StatementTexts.{brief_names, brief_project, from_tests, job_names, job_project, jobs_order, select_briefs, select_briefs_from, waiting_tests, waiting_order, select_waiting}
 use Rattle.std.proofs.Math.Bool.{and-true}
 use Rattle.fax_core.specs.Ageing.{is_past}
 use Rattle.fax_core.specs.Best.{better}
@@ -40,7 +47,7 @@ use Rattle.fax_job.specs.declared.job.Phase.TheVariants.{Held, Waiting, Granted,
 use Rattle.fax_tables.specs.Row.{number, phase_number}
 use Rattle.fax_store.proofs.CountLemmas.{lower}
 use Rattle.fax_schema.proofs.ColumnLemmas.{all_kept}
-use Rattle.fax_schema.proofs.CompareLemmas.{are_equal, equal_numbers, at_most, or_else}
+use Rattle.fax_schema.proofs.CompareLemmas.{are_equal, at_least, compared, equal_numbers, at_most, or_else}
 
 abbrev pub Below : Job → Job → Type 0
 Below a b = a.number < b.number
@@ -62,81 +69,114 @@ in_order_of cmp out less same xs sorted i d from low =
     sym (same (get_or xs (i + 1) d) (get_or xs i d)) ∙ sym (ap₂ (λ a b. is_lt (cmp a b)) (get_or-map out xs (i + 1) d) (get_or-map out xs i d))
     ∙ sorted i (out d) from (subst (λ n. i + 1 < n) (sym (length_map out xs)) low)
 
-module _ (project : List Term) where
-  -- what a job is sorted by, and what is shown of it
-  abbrev out_of : Job → Output
-  out_of j = put_out jobs_tree [] project [] jobs_order (row_of j)
-
-  -- the order of the text is that of the jobs' numbers
-  same_as_numbers : (a b : Job) → is_lt (output_cmp (rows_by jobs_tree [] project jobs_order) (out_of a) (out_of b)) ≡ is_lt (by_number a b)
-  same_as_numbers a b = ap is_lt (ap (λ o. ordering_then o Equal) (value_cmp-Int (pos a.number) (pos b.number))) ∙ less_number a.number b.number
-
 -- the rows of a table stand by number
 pub ascend : (jobs : List Job) → IsTable (map row_of jobs) → IsAscending Below jobs
 ascend jobs rise =
     ascending_weaker (λ a b. value_cmp (rowid (row_of a)) (rowid (row_of b)) ≡ Less) Below (λ a b. lower a.number b.number) jobs
     (ascending_from_map (λ a b. value_cmp (rowid a) (rowid b) ≡ Less) row_of jobs rise)
 
-module _ (old new : State) (m : Queue) (k : Ledger) (means : TablesMean old.now m k) (sql : List ℕ) (project : List Term) (names : List (List ℕ)) (selects : SelectsBy sql jobs_tree [] project jobs_order names) where
-  abbrev of : Job → Row
-  of j = show jobs_tree [] project [] (row_of j)
+-- a text that reads jobs by number without their extra lines, with these tests and parameters
+module _ (tests : List Term) (param : Row) (sql : List ℕ) (selects : SelectsBy sql jobs_tree tests brief_project jobs_order brief_names) where
+  abbrev brief_of : Row → Row
+  brief_of = show jobs_tree tests brief_project param
 
-  -- what is shown of all jobs
-  all_found : (rows : List Row) → Shown sql [] old new rows → rows ≡ map of m.jobs
-  all_found rows h =
-      let query = rows_by jobs_tree [] project jobs_order in
+  abbrev is_listed : Row → Bool
+  is_listed = passes jobs_tree tests brief_project param
+
+  -- what a job is sorted by, and what is shown of it
+  abbrev out_of : Job → Output
+  out_of j = put_out jobs_tree tests brief_project param jobs_order (row_of j)
+
+  -- the order of the text is that of the jobs' numbers
+  same_as_numbers : (a b : Job) → is_lt (output_cmp (rows_by jobs_tree tests brief_project jobs_order) (out_of a) (out_of b)) ≡ is_lt (by_number a b)
+  same_as_numbers a b = ap is_lt (ap (λ o. ordering_then o Equal) (value_cmp-Int (pos a.number) (pos b.number))) ∙ less_number a.number b.number
+
+  -- it shows the jobs that pass in brief, in the queue's order
+  in_brief : (kept : Job → Bool) → ((j : Job) → is_listed (row_of j) ≡ kept j) → (old new : State) (m : Queue) (k : Ledger) → TablesMean old.now m k
+      → (rows : List Row) → Shown sql param old new rows → rows ≡ map (λ j. brief_shown (fields_of j)) (filter kept m.jobs)
+  in_brief kept same old new m k means rows h =
+      let query = rows_by jobs_tree tests brief_project jobs_order in
       let table = old.now.trees jobs_tree in
-      let is_asked = passes jobs_tree [] project [] in
-      let read = reads_as sql [] old new our_tables means.schema _ selects.command selects.plain selects.unlisted rows h in
-      let shown = in_order jobs_tree [] project [] old.now table refl jobs_order names rows read in
-      let all : filter is_asked table ≡ map row_of m.jobs = filter_all is_asked table (all_of (λ r. is_asked r ≡ true) (λ r. refl) table) ∙ means.jobs in
-      let back = pull_back row_of (filter is_asked table) shown.0 shown.1 m.jobs all in
+      let read = reads_as sql param old new our_tables means.schema _ selects.command selects.plain selects.unlisted rows h in
+      let shown = in_order jobs_tree tests brief_project param old.now table refl jobs_order brief_names rows read in
+      let asked : filter is_listed table ≡ map row_of (filter kept m.jobs) =
+      ap (filter is_listed) means.jobs ∙ filter-map is_listed row_of m.jobs
+      ∙ ap (map row_of) (filter_same (λ j. is_listed (row_of j)) kept m.jobs (all_of (λ (j : Job). is_listed (row_of j) ≡ kept j) same m.jobs)) in
+      let back = pull_back row_of (filter is_listed table) shown.0 shown.1 (filter kept m.jobs) asked in
       let jobs = back.0 in
-      let sorted : IsSorted (output_cmp query) (map (out_of project) jobs) = subst (IsSorted (output_cmp query)) (ap (map (put_out jobs_tree [] project [] jobs_order)) back.2 ∙ map-map _ _ jobs) shown.3 in
-      let up = ascending_weaker Below (λ a b. by_number a b ≡ Less) (λ a b. rising a.number b.number) m.jobs
-      (ascend m.jobs (subst IsTable means.jobs means.ordered.jobs.rise)) in
-      let same = sorted_unique by_number (on_total (λ (j : Job). j.number) nat_cmp_total) m.jobs jobs up back.1
-      (in_order_of (output_cmp query) (out_of project) (λ a b. is_lt (by_number a b)) (same_as_numbers project) jobs sorted) in
-      shown.2 ∙ ap (map (show jobs_tree [] project [])) back.2 ∙ map-map _ _ jobs ∙ ap (map of) same
+      let sorted : IsSorted (output_cmp query) (map out_of jobs) = subst (IsSorted (output_cmp query)) (ap (map (put_out jobs_tree tests brief_project param jobs_order)) back.2 ∙ map-map _ _ jobs) shown.3 in
+      let up = ascending_weaker Below (λ a b. by_number a b ≡ Less) (λ a b. rising a.number b.number) (filter kept m.jobs)
+      (ascending_filter Below kept m.jobs (ascend m.jobs (subst IsTable means.jobs means.ordered.jobs.rise))) in
+      let ordered = sorted_unique by_number (on_total (λ (j : Job). j.number) nat_cmp_total) (filter kept m.jobs) jobs up back.1
+      (in_order_of (output_cmp query) out_of (λ a b. is_lt (by_number a b)) same_as_numbers jobs sorted) in
+      shown.2 ∙ ap (map brief_of) back.2 ∙ map-map _ _ jobs ∙ ap (map (λ j. brief_of (row_of j))) ordered
 
-module _ (old new : State) (m : Queue) (k : Ledger) (means : TablesMean old.now m k) (rows : List Row) where
-  -- the text on all jobs shows them whole, in the queue's order
-  pub jobs_found : Shown SELECT_JOBS.now [] old new rows → rows ≡ map (λ j. job_shown (fields_of j)) m.jobs
-  jobs_found = all_found old new m k means SELECT_JOBS.now job_project job_names select_jobs rows
-
-  -- the text on all jobs in brief shows them in brief, in the queue's order
-  pub briefs_found : Shown SELECT_BRIEFS.now [] old new rows → rows ≡ map (λ j. brief_shown (fields_of j)) m.jobs
-  briefs_found = all_found old new m k means SELECT_BRIEFS.now brief_project brief_names select_briefs rows
-
-module _ (old new : State) (db : Database) (ours : db.schema ≡ our_tables) (now : old.now ≡ db) where
-  -- whatever the rows say, each is shown once, in some order
-  each_shown : (sql : List ℕ) (project : List Term) (names : List (List ℕ)) → SelectsBy sql jobs_tree [] project jobs_order names
-      → (n : ℕ) → ((rs : List Row) → map (λ r. take n (show jobs_tree [] project [] r)) rs ≡ map (show jobs_tree [] project []) rs)
-      → (rows : List Row) → Shown sql [] old new rows → IsPermutation (map (show jobs_tree [] project []) (db.trees jobs_tree)) (map (take n) rows)
-  each_shown sql project names selects n whole rows h =
+  -- whatever the rows say, each that passes is shown once, in some order
+  each_shown : (kept : Row → Bool) → ((r : Row) → is_listed r ≡ kept r) → (old new : State) (db : Database) → db.schema ≡ our_tables → old.now ≡ db
+      → (rows : List Row) → Shown sql param old new rows → (found : List JobFields) → map (take 19) rows ≡ map brief_shown found
+      → AreInRows (filter kept (db.trees jobs_tree)) found
+  each_shown kept same old new db ours now rows h found is =
       let table = old.now.trees jobs_tree in
-      let of = show jobs_tree [] project [] in
-      let is_asked = passes jobs_tree [] project [] in
-      let read = reads_as sql [] old new our_tables (ap (λ (d : Database). d.schema) now ∙ ours) _ selects.command selects.plain selects.unlisted rows h in
-      let shown = in_order jobs_tree [] project [] old.now table refl jobs_order names rows read in
-      let all : filter is_asked table ≡ table = filter_all is_asked table (all_of (λ r. is_asked r ≡ true) (λ r. refl) table) in
-      let same : IsPermutation (map of table) (map of shown.0) = IsPermutation-map of table shown.0 (subst (λ (rs : List Row). IsPermutation rs shown.0) all shown.1) in
-      let told : map (take n) rows ≡ map of shown.0 = ap (map (take n)) shown.2 ∙ map-map (take n) of shown.0 ∙ whole shown.0 in
-      subst (λ (d : Database). IsPermutation (map of (d.trees jobs_tree)) (map (take n) rows)) now (subst (IsPermutation (map of table)) (sym told) same)
+      let read = reads_as sql param old new our_tables (ap (λ (d : Database). d.schema) now ∙ ours) _ selects.command selects.plain selects.unlisted rows h in
+      let shown = in_order jobs_tree tests brief_project param old.now table refl jobs_order brief_names rows read in
+      let asked : filter is_listed table ≡ filter kept table = filter_same is_listed kept table (all_of (λ r. is_listed r ≡ kept r) same table) in
+      let some : IsPermutation (map brief_of (filter kept table)) (map brief_of shown.0) = IsPermutation-map brief_of (filter kept table) shown.0 (subst (λ (rs : List Row). IsPermutation rs shown.0) asked shown.1) in
+      let told : map (take 19) rows ≡ map brief_of shown.0 = ap (map (take 19)) shown.2 ∙ map-map (take 19) brief_of shown.0 in
+      subst (IsPermutation (map (λ row. map (column row) brief_places) (filter kept (db.trees jobs_tree)))) is
+      (subst (λ (d : Database). IsPermutation (map brief_of (filter kept (d.trees jobs_tree))) (map (take 19) rows)) now
+      (subst (IsPermutation (map brief_of (filter kept table))) (sym told) some))
 
-  -- so does the text on all jobs
-  pub jobs_shown : (rows : List Row) → Shown SELECT_JOBS.now [] old new rows → (found : List JobFields)
-      → map (take 20) rows ≡ map job_shown found → JobsStand db found
-  jobs_shown rows h found is =
-      subst (IsPermutation (map (λ row. map (column row) job_places) (db.trees jobs_tree))) is
-      (each_shown SELECT_JOBS.now job_project job_names select_jobs 20 (λ rs. refl) rows h)
+-- the text on all jobs
+module _ (old new : State) where
+  pub briefs_found : (m : Queue) (k : Ledger) → TablesMean old.now m k → (rows : List Row) → Shown SELECT_BRIEFS.now [] old new rows
+      → rows ≡ map (λ j. brief_shown (fields_of j)) m.jobs
+  briefs_found m k means rows h =
+      in_brief [] [] SELECT_BRIEFS.now select_briefs (λ j. true) (λ j. refl) old new m k means rows h
+      ∙ ap (map (λ j. brief_shown (fields_of j))) (filter_all (λ (j : Job). true) m.jobs (all_of (λ (j : Job). true ≡ true) (λ j. refl) m.jobs))
 
-  -- and the text on all jobs in brief
-  pub briefs_shown : (rows : List Row) → Shown SELECT_BRIEFS.now [] old new rows → (found : List JobFields)
-      → map (take 19) rows ≡ map brief_shown found → BriefsStand db found
-  briefs_shown rows h found is =
-      subst (IsPermutation (map (λ row. map (column row) brief_places) (db.trees jobs_tree))) is
-      (each_shown SELECT_BRIEFS.now brief_project brief_names select_briefs 19 (λ rs. refl) rows h)
+  pub briefs_shown : (db : Database) → db.schema ≡ our_tables → old.now ≡ db → (rows : List Row) → Shown SELECT_BRIEFS.now [] old new rows
+      → (found : List JobFields) → map (take 19) rows ≡ map brief_shown found → BriefsStand db found
+  briefs_shown db ours now rows h found is =
+      let table = db.trees jobs_tree in
+      subst (λ rs. AreInRows rs found) (filter_all (λ (r : Row). true) table (all_of (λ (r : Row). true ≡ true) (λ r. refl) table))
+      (each_shown [] [] SELECT_BRIEFS.now select_briefs (λ r. true) (λ r. refl) old new db ours now rows h found is)
+
+-- a value is at least another just where it isn't less
+least : (o : Ordering) → test Ge o ≡ not (is_lt o)
+least Less = refl
+least Equal = refl
+least Greater = refl
+
+-- a comparison with a number holds where the value isn't below it, whatever value it is
+not_below : (v : Value) (n : ℕ) → is_true (binary (Compare Ge Binary) v (number n)) ≡ not (is_lt (value_cmp v (number n)))
+unfolding binary value_cmp
+not_below Null n = refl
+not_below (Int z) n = compared Ge (Int z) (number n) refl refl ∙ least (value_cmp (Int z) (number n))
+not_below (Real x) n = compared Ge (Real x) (number n) refl refl ∙ least (value_cmp (Real x) (number n))
+not_below (Text s) n = compared Ge (Text s) (number n) refl refl ∙ least (value_cmp (Text s) (number n))
+not_below (Blob s) n = compared Ge (Blob s) (number n) refl refl ∙ least (value_cmp (Blob s) (number n))
+
+-- the text on the jobs from a number on
+abbrev pub from : ℕ → Row
+from first = number first ∷ []
+
+module _ (first : ℕ) (old new : State) where
+  -- the rows that pass have this number at least, whatever they say
+  passes_from : (r : Row) → passes jobs_tree from_tests brief_project (from first) r ≡ is_from first r
+  passes_from r = and-true (is_true (binary (Compare Ge Binary) (column r 0) (number first))) ∙ not_below (column r 0) first
+
+  -- so do the rows of jobs
+  passes_number : (j : Job) → passes jobs_tree from_tests brief_project (from first) (row_of j) ≡ nat_le first j.number
+  passes_number j = and-true (is_true (binary (Compare Ge Binary) (number j.number) (number first))) ∙ at_least j.number first
+
+  pub later_found : (m : Queue) (k : Ledger) → TablesMean old.now m k → (rows : List Row) → Shown SELECT_BRIEFS_FROM.now (from first) old new rows
+      → rows ≡ map (λ j. brief_shown (fields_of j)) (jobs_from first m)
+  later_found m k means rows h =
+      in_brief from_tests (from first) SELECT_BRIEFS_FROM.now select_briefs_from (λ j. nat_le first j.number) passes_number old new m k means rows h
+
+  pub later_shown : (db : Database) → db.schema ≡ our_tables → old.now ≡ db → (rows : List Row) → Shown SELECT_BRIEFS_FROM.now (from first) old new rows
+      → (found : List JobFields) → map (take 19) rows ≡ map brief_shown found → BriefsStandFrom db first found
+  later_shown = each_shown from_tests (from first) SELECT_BRIEFS_FROM.now select_briefs_from (is_from first) passes_from old new
 
 -- ---- which jobs
 

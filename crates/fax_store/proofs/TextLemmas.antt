@@ -5,15 +5,15 @@ use Rattle.fax_schema.proofs.GrantTexts.{select_grant, select_hold, select_open}
 use Rattle.fax_schema.proofs.ModemTexts.{delete_down, insert_down, select_down}
 use Rattle.fax_schema.proofs.StatementTexts.{expire_jobs, insert_job, insert_reply, update_clock, update_job, update_meta}
 use Rattle.fax_schema.proofs.StatementTexts.{select_behind_number, select_behind_priority, select_behind_time, select_first}
-use Rattle.fax_schema.proofs.StatementTexts.{select_brief, select_briefs, select_dial, select_expired, select_held, select_job, select_jobs, select_lost}
+use Rattle.fax_schema.proofs.StatementTexts.{select_brief, select_briefs, select_briefs_from, select_dial, select_expired, select_held, select_holders, select_job, select_lost}
 use Rattle.fax_schema.proofs.StatementTexts.{select_meta, select_reply, select_version, select_waiting}
 use Rattle.fax_store.proofs.StatementLemmas.{edit_text}
 
 pub ruleset pages = (select_behind_number, select_behind_priority, select_behind_time, select_first)
 
-pub ruleset jobs = (expire_jobs, insert_job, select_brief, select_briefs, select_dial, select_expired, select_job, select_jobs, select_waiting, update_job)
+pub ruleset jobs = (expire_jobs, insert_job, select_brief, select_briefs, select_briefs_from, select_dial, select_expired, select_job, select_waiting, update_job)
 
-pub ruleset grants = (delete_calls, delete_hold, insert_calls, insert_grant, insert_hold, select_grant, select_hold, select_open, shut_grant, update_report)
+pub ruleset grants = (delete_calls, delete_hold, insert_calls, insert_grant, insert_hold, select_grant, select_hold, select_holders, select_open, shut_grant, update_report)
 
 pub ruleset adopted = (select_held, select_lost, select_version)
 

@@ -1,7 +1,9 @@
 -- What is made of the grants of a queue.
-use Rattle.std.specs.Prelude.{◌≡◌, ◌≢◌, ℕ, ◌+◌, true, false, List, [], ◌∷◌, Option, Some, None, IsTrue, if◌then◌else◌}
+use Rattle.std.specs.Prelude.{◌≡◌, ◌≢◌, ℕ, ◌+◌, true, false, List, [], ◌∷◌, map, Option, Some, None, IsTrue, if◌then◌else◌}
+use Rattle.std.specs.List.Sorted.{IsPermutation}
 use Rattle.std.specs.Str.{bytes_eq}
 use Rattle.sqlite.specs.Effect.{Database, IsDatabase}
+use Rattle.sqlite.specs.Order.{column}
 use Rattle.sqlite.specs.State.{State}
 use Rattle.sqlite.specs.declared.types.Value.TheVariants.{Text}
 use Rattle.sqlite_catalog.specs.Change.{KeepsRows}
@@ -108,3 +110,7 @@ CallsStand db = StandsOrNone db calls_tree
 -- the hold stands in a row, beside this modem
 abbrev pub HoldStands : Database → List ℕ → Hold → Type 0
 HoldStands db modem h = HasRow db holds_tree (1 ∷ 3 ∷ 2 ∷ []) (Text modem ∷ held_shown h)
+
+-- the modems are those of the rows of holds, in any order
+abbrev pub HoldersStand : Database → List (List ℕ) → Type 0
+HoldersStand db modems = IsPermutation (map (λ row. column row 1) (db.trees holds_tree)) (map Text modems)

@@ -1,10 +1,11 @@
 -- What is made of the jobs of a queue, and which of them wait.
-use Rattle.std.specs.Prelude.{◌≡◌, ℕ, List, [], ◌∷◌, ◌++◌, ◌+◌, ◌==◌, ◌&&◌, map, filter, Option, Some, None, if◌then◌else◌}
+use Rattle.std.specs.Prelude.{◌≡◌, ℕ, Bool, not, List, [], ◌∷◌, ◌++◌, ◌+◌, ◌==◌, ◌&&◌, map, filter, nat_le, Option, Some, None, if◌then◌else◌}
+use Rattle.std.specs.Ordering.{is_lt}
 use Rattle.std.specs.List.{range_with_len}
 use Rattle.std.specs.List.Sorted.{IsPermutation, IsSortedBy}
 use Rattle.sqlite.specs.Effect.{Database}
-use Rattle.sqlite.specs.Order.{column}
-use Rattle.sqlite.specs.Order.{column}
+use Rattle.sqlite.specs.Order.{Row, column}
+use Rattle.sqlite_value.specs.Order.{value_cmp}
 use Rattle.fax_core.specs.Job.{Job, fields_of}
 use Rattle.fax_core.specs.Ageing.{aged_job, is_past}
 use Rattle.fax_core.specs.Best.{better}
@@ -77,6 +78,10 @@ pub record AreWaiting (t : ℕ) (m : Queue) (jobs : List Job) : Type 0 where
 abbrev pub IsWaiting : ℕ → Queue → List JobFields → Type 0
 IsWaiting t m found = (jobs : List Job) × (found ≡ map fields_of jobs) × AreWaiting t m jobs
 
+-- the jobs from this number on
+abbrev pub jobs_from : ℕ → Queue → List Job
+jobs_from first m = filter (λ j. nat_le first j.number) m.jobs
+
 -- ---- the rows, whatever they say
 
 -- where a row of jobs has what a query for a job in brief shows, in that order
@@ -99,10 +104,17 @@ JobStands db n job = (job.job ≡ n) × HasRow db jobs_tree job_places (job_show
 abbrev pub BriefStands : Database → ℕ → JobFields → Type 0
 BriefStands db n job = (job.job ≡ n) × (job.extra ≡ []) × HasRow db jobs_tree brief_places (brief_shown job)
 
--- there are as many jobs as rows, and each stands in its row, in any order
-abbrev pub JobsStand : Database → List JobFields → Type 0
-JobsStand db jobs = IsPermutation (map (λ row. map (column row) job_places) (db.trees jobs_tree)) (map job_shown jobs)
+-- there are as many jobs as rows, and each is in its row, without its extra lines, in any order
+abbrev pub AreInRows : List Row → List JobFields → Type 0
+AreInRows rows jobs = IsPermutation (map (λ row. map (column row) brief_places) rows) (map brief_shown jobs)
 
--- the same of jobs without their extra lines
 abbrev pub BriefsStand : Database → List JobFields → Type 0
-BriefsStand db jobs = IsPermutation (map (λ row. map (column row) brief_places) (db.trees jobs_tree)) (map brief_shown jobs)
+BriefsStand db jobs = AreInRows (db.trees jobs_tree) jobs
+
+-- the row of jobs has this number or a greater one
+abbrev pub is_from : ℕ → Row → Bool
+is_from first row = not (is_lt (value_cmp (column row 0) (number first)))
+
+-- the same of the rows from this number on
+abbrev pub BriefsStandFrom : Database → ℕ → List JobFields → Type 0
+BriefsStandFrom db first jobs = AreInRows (filter (is_from first) (db.trees jobs_tree)) jobs

@@ -1,15 +1,16 @@
 //! The grants, and what modems and jobs hold of those that are open.
 
-ghost use Rattle.std.specs.Prelude.{◌≡◌, ◌<◌, ◌≤◌, ◌+◌, ◌-◌, ◌^◌, ⊤, ℕ, List, false, Err, IfErr, IfSome, OnErr, OnOk};
+ghost use Rattle.std.specs.Prelude.{◌≡◌, ◌<◌, ◌≤◌, ◌+◌, ◌-◌, ◌^◌, ⊤, ℕ, List, false, map, Err, IfErr, IfSome, OnErr, OnOk};
+ghost use Rattle.std.specs.List.Sorted.{IsPermutation};
 ghost use Rattle.std.specs.Option.{option_map};
 ghost use Rattle.sqlite.specs.State.{HasCleanDisk, KeepsCommit};
 ghost use Rattle.fax_core.specs.Machine.{held_by, with_grant};
 ghost use Rattle.fax_core.specs.Ledger.{Ledger};
-ghost use Rattle.fax_core.specs.Queue.{Queue, grant_numbered};
+ghost use Rattle.fax_core.specs.Queue.{Queue, grant_numbered, open_grants};
 ghost use Rattle.fax_core.specs.State.{calls_to};
 ghost use Rattle.fax_value.specs.Limits.{most_pages};
 ghost use Rattle.fax_store.specs.Calls.{Answers, AnswersRows, BecomesWhere, Calls, Finds, LooksUpLawful, MakesIf, RecallsRows, Runs, TellsLawful, TellsRows, WritesIf, WritesIfWhere, WritesWhere, shown};
-ghost use Rattle.fax_store.specs.Grant.{CallsStand, GrantStands, HasCalls, HasGrantRow, HasHoldRow, HoldStands, IsCalled, IsHeld, IsHeldBy, IsNewGrant, IsReport, SetsCalls, with_count, with_placed, with_one_more_grant, with_closed};
+ghost use Rattle.fax_store.specs.Grant.{CallsStand, GrantStands, HasCalls, HasGrantRow, HasHoldRow, HoldStands, HoldersStand, IsCalled, IsHeld, IsHeldBy, IsNewGrant, IsReport, SetsCalls, with_count, with_placed, with_one_more_grant, with_closed};
 ghost use Rattle.fax_store.specs.Meta.{IsGrantLeft};
 ghost use Rattle.fax_store.specs.Store.{Serves, HasTables};
 ghost use Rattle.fax_store.specs.Work.{Works, Moves, Steps};
@@ -21,14 +22,14 @@ ghost use Rattle.fax_tables.specs.Tables.{AreCalls, HasJob};
 use crate::store::Store;
 use crate::work::Work;
 use fax_core::Grant;
-use fax_job::Dial;
 use fax_job::limits::MOST_PAGES;
+use fax_job::{Dial, Name};
 use fax_schema::statements::{
     DELETE_CALLS, DELETE_HOLD, INSERT_CALLS, INSERT_GRANT, INSERT_HOLD, SELECT_GRANT, SELECT_HOLD,
-    SELECT_OPEN, SHUT_GRANT, UPDATE_REPORT,
+    SELECT_HOLDERS, SELECT_OPEN, SHUT_GRANT, UPDATE_REPORT,
 };
 use fax_tables::{
-    Hold, Meta, PAST_GRANTS, StoreFault, call_number, calls_in, grant_in, is_open_grant,
+    Hold, Meta, PAST_GRANTS, StoreFault, call_number, calls_in, grant_in, holders_in, is_open_grant,
 };
 use sqlite::{Alter, params};
 
@@ -46,6 +47,19 @@ impl<S: Alter> Store<S> {
             Some(row) => Ok(Some(Hold::in_row(&row)?)),
             None => Ok(None),
         }
+    }
+
+    /// The modems that hold an open grant, in no order that means anything.
+    ///
+    /// # Errors
+    ///
+    /// `Unavailable`, or `Strange` where the modem in a row is no name.
+    pub fn holders(&mut self) -> Result<Vec<Name>, StoreFault>
+        ensures { RecallsRows S.Store self.old self.new result (λ m k found. IsPermutation
+            (map (λ g. g.modem) (open_grants m)) found.items) (λ db found. HoldersStand db found.items) }
+    {
+        let shown = self.show(SELECT_HOLDERS, &[])?;
+        holders_in(self.alloc, shown.as_slice())
     }
 
     /// The grant of this number.

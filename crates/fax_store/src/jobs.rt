@@ -5,7 +5,7 @@ ghost use Rattle.std.specs.Option.{option_map};
 ghost use Rattle.fax_core.specs.Job.{job_of, fields_of};
 ghost use Rattle.fax_core.specs.Queue.{job_numbered};
 ghost use Rattle.fax_store.specs.Calls.{LooksUp, Makes, MakesIf, MakesIfWhere, MakesWhere, Recalls, RecallsLawful, RecallsOnly, RecallsRows, Tells, Writes, WritesIf, WritesIfWhere, WritesWhere};
-ghost use Rattle.fax_store.specs.Job.{BriefStands, BriefsStand, HasJobRow, JobStands, JobsStand, IsChange, IsNewJob, IsWaiting, with_change, with_placed, with_one_more_job, with_expired, with_expired_in};
+ghost use Rattle.fax_store.specs.Job.{BriefStands, BriefsStand, BriefsStandFrom, HasJobRow, JobStands, IsChange, IsNewJob, IsWaiting, jobs_from, with_change, with_placed, with_one_more_job, with_expired, with_expired_in};
 ghost use Rattle.fax_store.specs.Meta.{IsJobLeft, with_clock};
 ghost use Rattle.fax_tables.specs.Job.{brief};
 ghost use Rattle.fax_tables.specs.Meta.{meta_of};
@@ -14,8 +14,8 @@ use crate::store::Store;
 use crate::work::Work;
 use fax_job::{Job, Moment, Phase};
 use fax_schema::statements::{
-    EXPIRE_JOBS, INSERT_JOB, SELECT_BRIEF, SELECT_BRIEFS, SELECT_EXPIRED, SELECT_JOB, SELECT_JOBS,
-    SELECT_WAITING, UPDATE_JOB,
+    EXPIRE_JOBS, INSERT_JOB, SELECT_BRIEF, SELECT_BRIEFS, SELECT_BRIEFS_FROM, SELECT_EXPIRED,
+    SELECT_JOB, SELECT_WAITING, UPDATE_JOB,
 };
 use fax_tables::{
     Meta, PAST_JOBS, StoreFault, brief_in, briefs_in, job_in, jobs_in, killtime_number,
@@ -67,30 +67,31 @@ impl<S: Alter> Store<S> {
         jobs_in(self.alloc, rows.as_slice())
     }
 
-    /// The jobs of the queue, in ascending order of their numbers.
-    ///
-    /// # Errors
-    ///
-    /// `Unavailable`, or `Strange` where the row of one is no lawful record.
-    pub fn jobs(&mut self) -> Result<Vec<Job>, StoreFault>
-        ensures { RecallsRows S.Store self.old self.new result (λ m k found. found.items ≡ map fields_of m.jobs)
-            (λ db found. JobsStand db found.items) }
-    {
-        let shown = self.show(SELECT_JOBS, &[])?;
-        jobs_in(self.alloc, shown.as_slice())
-    }
-
     /// The jobs of the queue without their extra lines, which aren't read, in ascending order of their numbers.
     ///
     /// # Errors
     ///
-    /// `Unavailable`, or `Strange` where the rest of a row is no part of a lawful record.
+    /// `Unavailable`, or `Strange` where the rest of a row is no part of a valid record.
     pub fn briefs(&mut self) -> Result<Vec<Job>, StoreFault>
         ensures { RecallsLawful S.Store self.old self.new result (λ m k found. found.items
             ≡ map (λ j. brief (fields_of j)) m.jobs) (λ db found. BriefsStand db found.items)
             (λ found. map brief found.items ≡ found.items) }
     {
         let shown = self.show(SELECT_BRIEFS, &[])?;
+        briefs_in(self.alloc, shown.as_slice())
+    }
+
+    /// The jobs from the number `first` on, as [`Store::briefs`] has all.
+    ///
+    /// # Errors
+    ///
+    /// Those of [`Store::briefs`].
+    pub fn briefs_from(&mut self, first: u32) -> Result<Vec<Job>, StoreFault>
+        ensures { RecallsLawful S.Store self.old self.new result (λ m k found. found.items
+            ≡ map (λ j. brief (fields_of j)) (jobs_from first m)) (λ db found. BriefsStandFrom db first found.items)
+            (λ found. map brief found.items ≡ found.items) }
+    {
+        let shown = self.show(SELECT_BRIEFS_FROM, params![first])?;
         briefs_in(self.alloc, shown.as_slice())
     }
 
@@ -239,22 +240,6 @@ impl<S: Alter> Work<'_, S> {
             return Err(StoreFault::Unavailable);
         }
         let found = self.store.waiting(t);
-        self.failed = found.is_err();
-        found
-    }
-
-    /// The jobs of the queue, in ascending order of their numbers.
-    ///
-    /// # Errors
-    ///
-    /// `Unavailable`, or `Strange` where the row of one is no lawful record.
-    pub fn jobs(&mut self) -> Result<Vec<Job>, StoreFault>
-        ensures { Tells S.Store self.old self.new result (λ m k found. found.items ≡ map fields_of m.jobs) }
-    {
-        if self.failed {
-            return Err(StoreFault::Unavailable);
-        }
-        let found = self.store.jobs();
         self.failed = found.is_err();
         found
     }

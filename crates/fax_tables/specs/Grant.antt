@@ -1,5 +1,5 @@
 -- Lawful grants, and the rows of queries for them.
-use Rattle.std.specs.Prelude.{◌≤◌, [], ◌∷◌, IsTrue}
+use Rattle.std.specs.Prelude.{◌≤◌, ℕ, List, [], ◌∷◌, IsTrue}
 use Rattle.sqlite.specs.Order.{Row}
 use Rattle.sqlite.specs.declared.types.Value.TheVariants.{Text}
 use Rattle.fax_core.specs.declared.grants.Grant.{Grant}
@@ -18,6 +18,10 @@ held_shown h = number h.grant ∷ number h.job ∷ []
 -- the same of a grant's
 abbrev pub hold_shown : Grant → Row
 hold_shown g = held_shown (as_hold g)
+
+-- the row of a query for the modems that hold a grant
+abbrev pub holder_shown : List ℕ → Row
+holder_shown modem = Text modem ∷ []
 
 -- the row of a query for a grant
 abbrev pub grant_shown : Grant → Row

@@ -1,10 +1,11 @@
 //! The grants in rows, and what modems and jobs hold of those that are open.
 
-ghost use Rattle.std.specs.Prelude.{◌≡◌, ◌<◌, ◌^◌, ℕ, [], ◌∷◌, Option, IfOk, IsTrue, if◌then◌else◌};
+ghost use Rattle.std.specs.Prelude.{◌≡◌, ◌<◌, ◌^◌, ℕ, All, List, [], ◌∷◌, map, take, Option, IfOk, IsTrue, if◌then◌else◌};
 ghost use Rattle.fax_core.specs.declared.grants.Grant.{Grant as Granted};
 ghost use Rattle.fax_job.specs.declared.job.Call.{Call as HowItWent};
+ghost use Rattle.fax_value.specs.Name.{IsName};
 ghost use Rattle.fax_tables.specs.Fault.{OrUnavailable};
-ghost use Rattle.fax_tables.specs.Grant.{as_hold, held_shown, hold_shown, grant_shown, IsWithinLimits, IsLawfulHold, IsOpenGrant};
+ghost use Rattle.fax_tables.specs.Grant.{as_hold, held_shown, hold_shown, holder_shown, grant_shown, IsWithinLimits, IsLawfulHold, IsOpenGrant};
 ghost use Rattle.fax_tables.specs.Row.{HasNumber, HasValues, call_number, number, shut_number};
 ghost use Rattle.fax_tables.specs.Tables.{IsLawfulGrant};
 
@@ -12,8 +13,8 @@ use crate::fault::StoreFault;
 use crate::meta::{PAST_GRANTS, PAST_JOBS};
 use crate::row::{name_at, number_at, small_at};
 use fax_core::Grant;
-use fax_job::Call;
 use fax_job::limits::MOST_PAGES;
+use fax_job::{Call, Name};
 use sqlite::Row;
 use std::alloc::Global;
 
@@ -130,6 +131,22 @@ pub fn held_job_in(row: &Row) -> Result<u32, StoreFault>
     ensures stands { IfOk result (HasNumber row.now 0) }
 {
     number_at(row, 0)
+}
+
+/// The names in rows of one column, in their order.
+pub fn holders_in(alloc: Global, rows: &[Row]) -> Result<Vec<Name>, StoreFault>
+    ensures found { (names : List (List ℕ)) → rows.now ≡ map holder_shown names → All IsName names
+        → OrUnavailable result (λ found. found.items ≡ names) }
+    ensures stands { IfOk result (λ found. map (take 1) rows.now ≡ map holder_shown found.items) }
+{
+    let mut names = Vec::new(alloc);
+    for row in rows {
+        let name = name_at(alloc, row, 0)?;
+        if names.push(name).is_err() {
+            return Err(StoreFault::Unavailable);
+        }
+    }
+    Ok(names)
 }
 
 impl Hold {

@@ -15,7 +15,7 @@ mod schema;
 
 pub use fault::{StoreFault, insert_fault};
 pub use floors::{floor_in, floor_value};
-pub use grants::{Hold, call_number, calls_in, grant_in, held_job_in, is_open_grant};
+pub use grants::{Hold, call_number, calls_in, grant_in, held_job_in, holders_in, is_open_grant};
 pub use jobs::{
     brief_in, briefs_in, dial_in, job_in, jobs_in, killtime_number, phase_number, spelling,
     wish_number,

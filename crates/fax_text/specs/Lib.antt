@@ -7,6 +7,7 @@ pub mod ImportWords
 pub mod ListWords
 pub mod Listing
 pub mod Misuse
+pub mod Modems
 pub mod Option
 pub mod Sendfax
 pub mod Server

@@ -49,7 +49,7 @@ sendfax_command = with_request (with_times (with_limits (with_fax (new_app (code
 -- `faxqd COMMAND`
 abbrev pub program : App
 program =
-    with_subcommand (with_subcommand (with_subcommand (with_subcommand (with_subcommand (with_subcommand (with_subcommand (on_top (λ s. record s { subcommand_required = true }) (new_app (codes "faxqd")))
+    with_subcommand (with_subcommand (with_subcommand (with_subcommand (with_subcommand (with_subcommand (with_subcommand (on_top (λ s. record s { subcommand_required = true; has_version = true }) (new_app (codes "faxqd")))
     replay_command.top) serve_command.top) list_command.top) check_command.top) sendfax_command.top) import_command.top) settings_command.top
 
 -- ---- what the words ask for

@@ -23,6 +23,9 @@ use clap::{Arg, ArgMatches, Command, Error};
 use fax_job::read_number;
 use std::alloc::{AllocError, Global};
 
+/// The version. In a built program `packaging/stamp` replaces the zeros by the commit and the toolchain.
+const VERSION: &str = "0 (commit 0000000000, rattle-kit-000)";
+
 /// The name of the command that hands in a job.
 const SENDFAX: &str = "sendfax";
 
@@ -281,6 +284,7 @@ fn command<'a>(alloc: Global) -> Result<Command<'a>, AllocError>
 {
     let program = Command::new(alloc, "faxqd")
         .about("The send queue of a fax server")
+        .version(VERSION)
         .after_help("Example:\n  faxqd serve --db queue.db --listen 127.0.0.1:4559")
         .subcommand_required(true);
     let program = with_command(program, replay_command(alloc))?;

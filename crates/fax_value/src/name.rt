@@ -1,6 +1,6 @@
 //! Names of modems, of classes of modems and of clients.
 
-ghost use Rattle.std.specs.Prelude.{◌≡◌, ◌↔◌, ℕ, List, IsTrue};
+ghost use Rattle.std.specs.Prelude.{◌≡◌, ◌↔◌, ℕ, List, IfOk, IsTrue};
 ghost use Rattle.std.specs.List.{list_all};
 ghost use Rattle.std.specs.String.{string_bytes};
 ghost use Rattle.fax_value.specs.Gives.{Gives, Tells};
@@ -8,7 +8,7 @@ ghost use Rattle.fax_value.specs.TextFault.{is_no_memory};
 ghost use Rattle.fax_value.specs.Name.{is_name_byte, is_name, IsName, name_of};
 
 use crate::text_fault::TextFault;
-use std::alloc::Global;
+use std::alloc::{AllocError, Global};
 use std::marker::Model;
 
 /// Whether a text is a name: 1 to 32 bytes of `A-Za-z0-9._-`.
@@ -69,5 +69,13 @@ impl Name {
         ensures formed { IsName self.now }
     {
         self.text.as_str()
+    }
+
+    /// The same name, in memory of its own.
+    pub fn copy(&self, alloc: Global) -> Result<Name, AllocError>
+        ensures { IfOk result (λ name. name ≡ self.now) }
+    {
+        let text = String::from_str(alloc, self.as_str())?;
+        Ok(Name { text })
     }
 }

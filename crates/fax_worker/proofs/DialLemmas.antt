@@ -29,7 +29,7 @@ use Rattle.fax_core.specs.Job.{Job}
 use Rattle.fax_core.specs.Machine.{act, brought_in, changed, on_job, step, submitted, with_job, with_mark, with_new_job}
 use Rattle.fax_core.specs.Queue.{Queue, grant_numbered, job_numbered}
 use Rattle.fax_core.specs.Reply.{Marked, NoKeys, Reply, Taken, Refused}
-use Rattle.fax_core.specs.Settings.{Rule, Settings}
+use Rattle.fax_core.specs.Settings.{Rule, Settings, has_modem}
 use Rattle.fax_core.specs.Sound.{IsJob, Sound}
 use Rattle.fax_core.proofs.DecisionLemmas.{aged_number, asked_in, not_refused, ok_same, reported_in}
 use Rattle.fax_core.proofs.KeepLemmas.{looked_up, numbered_job, same_job}
@@ -198,7 +198,7 @@ act_dials : (s : Settings) (m n : Queue) (t : ℕ) (request : Ask) (r : Reply) �
 act_dials s m n t (Submission o) r h e = submission_dials m n (s.rule o.dial) (submit o (s.rule o.dial) m.next_job s.max_jobs t) r e
 act_dials s m n t (Bring i) r h e = import_dials s m n t (s.rule i.order.dial) (bring i (s.rule i.order.dial) m.next_job s.max_jobs t) r e
 act_dials s m n t (OnJob b a) r h e = on_job_dials s m n t b a (job_numbered b m) r refl e
-act_dials s m n t (Mark modem down) r h e = marked_dials m n modem down (s.has_modem modem) r e
+act_dials s m n t (Mark modem down) r h e = marked_dials m n modem down (has_modem s modem) r e
 act_dials s m n t (Next modem) r h e = given_dials s m n t modem r (given_is s m t modem n r h e)
 act_dials s m n t (OnGrant a z) r h e = report_dials s m n t a z (on_grant_is s m t a z (grant_numbered a m) n r refl e)
 act_dials s m n t (GiveUp u) r h e = same_dials m n (ap (λ (q : Queue). q.jobs) (sym (taken_same m n _ r e).0))

@@ -35,7 +35,7 @@ use Rattle.fax_core.specs.Machine as machine
 use Rattle.fax_core.specs.Machine.{act, brought_in, changed, on_grant, on_job, report_reply, step, submitted, with_both, with_job, with_mark, with_new_job}
 use Rattle.fax_core.specs.Queue.{Queue, grant_numbered, job_numbered}
 use Rattle.fax_core.specs.Reply.{Brought, Marked, NoKeys, Reply, Taken, Refused}
-use Rattle.fax_core.specs.Settings.{Rule, Settings}
+use Rattle.fax_core.specs.Settings.{Rule, Settings, has_modem}
 use Rattle.fax_core.specs.Sound.{IsJob, IsOpen, Sound}
 use Rattle.fax_core.specs.State.{state, state_number}
 use Rattle.fax_core.proofs.DecisionLemmas.{aged_number, aged_sent, asked_in, not_refused, ok_same, paged, reported_in}
@@ -358,7 +358,7 @@ act_made : (s : Settings) (m n : Queue) (t : ℕ) (request : Ask) (r : Reply) �
 act_made s m n t (Submission o) r h e = submission_made m n o (s.rule o.dial) s.max_jobs t (submit o (s.rule o.dial) m.next_job s.max_jobs t) r h refl e
 act_made s m n t (Bring i) r h e = import_made s m n i (s.rule i.order.dial) s.max_jobs t (bring i (s.rule i.order.dial) m.next_job s.max_jobs t) r h refl e
 act_made s m n t (OnJob b a) r h e = on_job_made s m n t (OnJob b a) (λ c p e. cc e) b a (job_numbered b m) r refl e
-act_made s m n t (Mark modem down) r h e = same_made m n (Mark modem down) r (λ a p e. cc e) (marked_jobs m n modem down (s.has_modem modem) r e)
+act_made s m n t (Mark modem down) r h e = same_made m n (Mark modem down) r (λ a p e. cc e) (marked_jobs m n modem down (has_modem s modem) r e)
 act_made s m n t (Next modem) r h e = given_made s m n t modem (Next modem) r (λ a p e. cc e) (given_is s m t modem n r h e)
 act_made s m n t (OnGrant a z) r h e = report_made s m n t a z r h (on_grant_is s m t a z (grant_numbered a m) n r refl e)
 act_made s m n t (GiveUp u) r h e = same_made m n (GiveUp u) r (λ a p e. cc e) (ap (λ (q : Queue). q.jobs) (sym (taken_same m n _ r e).0))
@@ -443,7 +443,7 @@ pub step_brings : (s : Settings) (m n : Queue) (t : ℕ) (request : Ask) (r : Re
 step_brings s m n t (Submission o) r x h e on = absurd (not_both (brings r x) (submitted_brings (aged t m) n (s.rule o.dial) (submit o (s.rule o.dial) m.next_job s.max_jobs t) r e x) on)
 step_brings s m n t (Bring i) r x h e on = came_there s m n t i r x h e on
 step_brings s m n t (OnJob b a) r x h e on = absurd (not_both (brings r x) (on_job_brings s (aged t m) n t a (job_numbered b (aged t m)) r e x) on)
-step_brings s m n t (Mark modem down) r x h e on = absurd (not_both (brings r x) (marked_brings (aged t m) n modem down (s.has_modem modem) r e x) on)
+step_brings s m n t (Mark modem down) r x h e on = absurd (not_both (brings r x) (marked_brings (aged t m) n modem down (has_modem s modem) r e x) on)
 step_brings s m n t (Next modem) r x h e on = absurd (not_both (brings r x) (given_brings s (aged t m) n t modem r (given_is s (aged t m) t modem n r (aged_sound t m h) e) x) on)
 step_brings s m n t (OnGrant a z) r x h e on = absurd (not_both (brings r x) (on_grant_brings s (aged t m) n t z (grant_numbered a (aged t m)) r e x) on)
 step_brings s m n t (GiveUp u) r x h e on = absurd (not_both (brings r x) (ap (λ (q : Reply). brings q x) (sym (taken_same (aged t m) n _ r e).1)) on)

@@ -20,11 +20,11 @@ use Rattle.fax_core.specs.declared.ask.JobAsk.{JobAsk}
 use Rattle.fax_core.specs.Decisions.{JobAndGrant, after_call, call, ended, grant_reported, granted, is_connected, is_done, is_empty, job_asked, outcome, page, page_of, submit}
 use Rattle.fax_core.specs.Import.{bring}
 use Rattle.fax_core.specs.Job.{Job}
-use Rattle.fax_core.specs.Machine.{act, brought_in, changed, given_to, handed, held_by, on_both, on_grant, on_job, report_reply, step, submitted, with_both, with_grant, with_job, with_mark, with_new_grant, with_new_job, dial_of}
+use Rattle.fax_core.specs.Machine.{brought_in, changed, handed, on_both, on_grant, on_job, report_reply, step, submitted, with_both, with_job, with_mark, with_new_grant, with_new_job, dial_of}
 use Rattle.fax_core.specs.Machine as machine
 use Rattle.fax_core.specs.Queue.{Queue, grant_numbered, job_numbered}
 use Rattle.fax_core.specs.Reply.{Given, Handed, Marked, NoKeys, Reply, Taken, Refused}
-use Rattle.fax_core.specs.Settings.{Rule, Settings}
+use Rattle.fax_core.specs.Settings.{Rule, Settings, has_modem}
 use Rattle.fax_core.specs.Sound.{FitsGrant, IsJob, IsOpen, Sound}
 use Rattle.fax_core.proofs.DecisionLemmas.{not_refused, ok_same, reported_in}
 use Rattle.fax_core.proofs.KeepLemmas.{Grants, found_new, numbered_grant, numbered_job, same_job}
@@ -133,7 +133,7 @@ pub grant_stays : (s : Settings) (m n : Queue) (t : ℕ) (ask : Ask) (r : Reply)
 grant_stays s m n t (Submission o) r a g h e other is = found_same m n a g (submission_same (aged t m) n (s.rule o.dial) (submit o (s.rule o.dial) m.next_job s.max_jobs t) r e) is
 grant_stays s m n t (Bring i) r a g h e other is = found_same m n a g (import_same s (aged t m) n t (s.rule i.order.dial) (bring i (s.rule i.order.dial) m.next_job s.max_jobs t) r e) is
 grant_stays s m n t (OnJob b ask) r a g h e other is = found_same m n a g (on_job_same s (aged t m) n t ask (job_numbered b (aged t m)) r e) is
-grant_stays s m n t (Mark modem down) r a g h e other is = found_same m n a g (marked_same (aged t m) n modem down (s.has_modem modem) r e) is
+grant_stays s m n t (Mark modem down) r a g h e other is = found_same m n a g (marked_same (aged t m) n modem down (has_modem s modem) r e) is
 grant_stays s m n t (Next modem) r a g h e other is = given_stays s (aged t m) n t modem r a g (given_is s (aged t m) t modem n r (aged_sound t m h) e) is
 grant_stays s m n t (OnGrant b x) r a g h e other is =
     other_stays s (aged t m) n t b x a g (on_grant_is s (aged t m) t b x (grant_numbered b (aged t m)) n r refl e) (λ q. other x (ap (λ (i : ℕ). OnGrant i x) q)) is
@@ -191,7 +191,7 @@ pub calls_first : (s : Settings) (m n : Queue) (t : ℕ) (ask : Ask) (r : Reply)
 calls_first s m n t (Submission o) r h e = calls_same m n (submission_same (aged t m) n (s.rule o.dial) (submit o (s.rule o.dial) m.next_job s.max_jobs t) r e)
 calls_first s m n t (Bring i) r h e = calls_same m n (import_same s (aged t m) n t (s.rule i.order.dial) (bring i (s.rule i.order.dial) m.next_job s.max_jobs t) r e)
 calls_first s m n t (OnJob b ask) r h e = calls_same m n (on_job_same s (aged t m) n t ask (job_numbered b (aged t m)) r e)
-calls_first s m n t (Mark modem down) r h e = calls_same m n (marked_same (aged t m) n modem down (s.has_modem modem) r e)
+calls_first s m n t (Mark modem down) r h e = calls_same m n (marked_same (aged t m) n modem down (has_modem s modem) r e)
 calls_first s m n t (Next modem) r h e = calls_given s (aged t m) n t modem r (given_is s (aged t m) t modem n r (aged_sound t m h) e)
 calls_first s m n t (OnGrant b x) r h e = calls_reported s (aged t m) n t b x (on_grant_is s (aged t m) t b x (grant_numbered b (aged t m)) n r refl e)
 calls_first s m n t (GiveUp upto) r h e = calls_same m n (ap (λ (q : Queue). q.grants) (sym (taken_same (aged t m) n _ r e).0))

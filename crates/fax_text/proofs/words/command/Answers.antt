@@ -12,9 +12,11 @@ use Rattle.fax_text.proofs.words.command.Goals as goal
 
 pub returns : goal.returns
 returns c =
-    let top : app_of c.after_help.result ≡ new_app (codes "faxqd") = ap app_of_fields c.after_help.ensures ∙ ap app_of_fields c.about.ensures ∙ c.new.ensures.app in
+    let versioned : App → App = on_top (λ (s : Shape). record s { has_version = true }) in
+    let top : app_of c.after_help.result ≡ versioned (new_app (codes "faxqd")) =
+    ap app_of_fields c.after_help.ensures ∙ ap app_of_fields c.version.ensures ∙ ap versioned (ap app_of_fields c.about.ensures ∙ c.new.ensures.app) in
     let wants : App → App = on_top (λ (s : Shape). record s { subcommand_required = true }) in
-    let start : app_of c.subcommand_required-program.result ≡ wants (new_app (codes "faxqd")) =
+    let start : app_of c.subcommand_required-program.result ≡ wants (versioned (new_app (codes "faxqd"))) =
     ap app_of_fields c.subcommand_required-program.ensures ∙ ap wants top in
     let replay = adds_made _ _ _ _ replay_command c.in_ok-program.ensures c.replay_command.ensures.shape c.replay_command.ensures.local start in
     let serve = adds_made _ _ _ _ serve_command c.in_ok-program-2.ensures c.serve_command.ensures.shape c.serve_command.ensures.local replay in

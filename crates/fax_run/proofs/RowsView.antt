@@ -1,0 +1,62 @@
+-- Worked rows: which jobs are the newest, and what is shown of modems.
+use Rattle.std.specs.Prelude.{◌≡◌, ℕ, true, [], ◌∷◌, codes, refl}
+use Rattle.std.specs.Fmt.{digits}
+use Rattle.std.specs.List.{range_with_len}
+use Rattle.fax_job.specs.declared.job.Call.TheVariants.{Connected}
+use Rattle.fax_core.specs.Queue.{Queue, empty_queue}
+use Rattle.fax_core.specs.declared.ask.Ask.TheVariants.{Mark, Next, OnGrant, Submission}
+use Rattle.fax_core.specs.declared.report.Report.TheVariants.{Call, Page}
+use Rattle.fax_core.proofs.RowsGrants.{long_number}
+use Rattle.fax_core.proofs.RowWords.{◌at◌, after, order, settings, ttyS0, ttyS1}
+use Rattle.fax_run.specs.Modems.{modem_names, modems_shown, with_names}
+use Rattle.fax_run.specs.View.{newest}
+
+-- of none, two and 200 all, and of 201 and 450 the last 200
+none_row : newest {A = ℕ} [] ≡ []
+none_row = refl
+
+few_row : newest {A = ℕ} (3 ∷ 7 ∷ []) ≡ 3 ∷ 7 ∷ []
+few_row = refl
+
+all_row : newest (range_with_len 1 200) ≡ range_with_len 1 200
+all_row = refl
+
+more_row : newest (range_with_len 1 201) ≡ range_with_len 2 200
+more_row = refl
+
+many_row : newest (range_with_len 1 450) ≡ range_with_len 251 200
+many_row = refl
+
+-- ---- modems
+
+-- capital letters come first, a name before those that go on after it, and each once
+names_row : with_names (codes "ttyS1" ∷ codes "ttyS" ∷ codes "Modem" ∷ codes "ttyS1" ∷ codes "ttyS0" ∷ codes "ttyS10" ∷ []) []
+    ≡ codes "Modem" ∷ codes "ttyS" ∷ codes "ttyS0" ∷ codes "ttyS1" ∷ codes "ttyS10" ∷ []
+names_row = refl
+
+idle_row : modems_shown settings empty_queue ≡ codes "ttyS0:up\nttyS1:up\n"
+idle_row = refl
+
+abbrev granted : Queue
+granted = after (Submission (order long_number 3) at 1000 ∷ Next ttyS0 at 1000 ∷ [])
+
+granted_row : modems_shown settings granted ≡ codes "ttyS0:up grant 1 job 1 number +14155550100 pages 1-3 call none confirmed 0\nttyS1:up\n"
+unfolding digits
+granted_row = refl
+
+abbrev confirmed : Queue
+confirmed =
+    after (Submission (order long_number 3) at 1000 ∷ Next ttyS0 at 1000 ∷ Mark ttyS1 true at 1000 ∷ OnGrant 1 (Call Connected) at 1000
+    ∷ OnGrant 1 (Page 1) at 1000 ∷ Mark ttyS0 true at 1000 ∷ [])
+
+confirmed_row : modems_shown settings confirmed ≡ codes "ttyS0:down grant 1 job 1 number +14155550100 pages 1-3 call connected confirmed 1\nttyS1:down\n"
+unfolding digits
+confirmed_row = refl
+
+-- a modem that the setup lacks is gone, and it is there while it holds a grant
+gone_row : modems_shown (record settings { modems = ttyS1 ∷ [] }) confirmed ≡ codes "ttyS0:gone grant 1 job 1 number +14155550100 pages 1-3 call connected confirmed 1\nttyS1:down\n"
+unfolding digits
+gone_row = refl
+
+lacking_row : modem_names (record settings { modems = ttyS1 ∷ ttyS1 ∷ [] }) empty_queue ≡ ttyS1 ∷ []
+lacking_row = refl
