@@ -1,13 +1,14 @@
 -- Worked rows: which jobs are the newest, and what is shown of modems.
-use Rattle.std.specs.Prelude.{◌≡◌, ℕ, true, [], ◌∷◌, codes, refl}
+use Rattle.std.specs.Prelude.{◌≡◌, ℕ, true, [], ◌∷◌, codes, false, refl}
 use Rattle.std.specs.Fmt.{digits}
 use Rattle.std.specs.List.{range_with_len}
 use Rattle.fax_job.specs.declared.job.Call.TheVariants.{Connected}
 use Rattle.fax_core.specs.Queue.{Queue, empty_queue}
 use Rattle.fax_core.specs.declared.ask.Ask.TheVariants.{Mark, Next, OnGrant, Submission}
-use Rattle.fax_core.specs.declared.report.Report.TheVariants.{Call, Page}
+use Rattle.fax_core.specs.declared.report.Ending.TheVariants.{Fail, Retry}
+use Rattle.fax_core.specs.declared.report.Report.TheVariants.{Call, Outcome, Page}
 use Rattle.fax_core.proofs.RowsGrants.{long_number}
-use Rattle.fax_core.proofs.RowWords.{◌at◌, after, order, settings, ttyS0, ttyS1}
+use Rattle.fax_core.proofs.RowWords.{◌at◌, after, order, report, settings, ttyS0, ttyS1}
 use Rattle.fax_run.specs.Modems.{modem_names, modems_shown, with_names}
 use Rattle.fax_run.specs.View.{newest}
 
@@ -53,6 +54,14 @@ confirmed_row : modems_shown settings confirmed ≡ codes "ttyS0:down grant 1 jo
 unfolding digits
 confirmed_row = refl
 
+abbrev closed : Queue
+closed = after (Submission (order long_number 3) at 1000 ∷ Next ttyS0 at 1000 ∷ OnGrant 1 (Outcome (report false Fail 0 [])) at 1000 ∷ [])
+
+abbrev second : Queue
+second =
+    after (Submission (order long_number 3) at 1000 ∷ Next ttyS0 at 1000 ∷ OnGrant 1 (Outcome (report false Retry 0 [])) at 1000
+    ∷ Submission (order (codes "5550112") 1) at 2000 ∷ Next ttyS0 at 2000 ∷ OnGrant 2 (Outcome (report false Retry 0 [])) at 2000 ∷ Next ttyS0 at 2001 ∷ [])
+
 -- a modem that the setup lacks is gone, and it is there while it holds a grant
 gone_row : modems_shown (record settings { modems = ttyS1 ∷ [] }) confirmed ≡ codes "ttyS0:gone grant 1 job 1 number +14155550100 pages 1-3 call connected confirmed 1\nttyS1:down\n"
 unfolding digits
@@ -60,3 +69,12 @@ gone_row = refl
 
 lacking_row : modem_names (record settings { modems = ttyS1 ∷ ttyS1 ∷ [] }) empty_queue ≡ ttyS1 ∷ []
 lacking_row = refl
+
+-- a modem that the setup lacks isn't shown once its grant is closed
+closed_row : modem_names (record settings { modems = ttyS1 ∷ [] }) closed ≡ ttyS1 ∷ []
+closed_row = refl
+
+-- a second grant, of a second job to another number
+second_row : modems_shown settings second ≡ codes "ttyS0:up grant 3 job 2 number 5550112 pages 1-1 call none confirmed 0\nttyS1:up\n"
+unfolding digits
+second_row = refl
