@@ -22,7 +22,7 @@ use Rattle.fax_ask.specs.declared.request.Request.{Request}
 use Rattle.fax_ask.specs.declared.request.Request.TheVariants.{OnJob, Mark, Next, OnGrant, Floor, Show}
 use Rattle.fax_ask.specs.Path.{parts, two_texts}
 use Rattle.fax_ask.specs.declared.view.View.TheVariants as view
-use Rattle.fax_ask.specs.Request.{job_request, jobs_request, modem_action, modem_request, modems_request, grant_report, grant_request, grants_request, imports_request, numbers_request, root_request, path_request, request_of, job_action}
+use Rattle.fax_ask.specs.Request.{job_request, job_times, jobs_request, modem_action, modem_request, modems_request, grant_report, grant_request, grants_request, imports_request, numbers_request, root_request, path_request, request_of, job_action}
 use Rattle.fax_ask.proofs.PathLemmas.{byte_of_parts}
 
 -- no text has an LF
@@ -88,10 +88,23 @@ in_posted id action request (Some job) e is =
     one_more id (action ∷ []) (numbers_lack_lf id job (begins_with_zero id) e)
     (one_more action [] (in_action job action request _ _ _ _ refl refl refl refl is) refl)
 
+-- nor have a job's number and the word of its times
+in_times : (id word : List ℕ) (request : Request) (number : Option ℕ) → request_number_of id ≡ number
+    → option_and_then (λ job. job_times job word) number ≡ Some request → lacks_lf (id ∷ word ∷ [])
+in_times id word request None e is = absurd cc
+in_times id word request (Some job) e is =
+    one_more id (word ∷ []) (numbers_lack_lf id job (begins_with_zero id) e)
+    (one_more word [] (by (bytes_eq word (codes "times")) refl is) refl)
+  where
+    by : (named : Bool) → bytes_eq word (codes "times") ≡ named → cond named (Some (Show (view.Times job))) None ≡ Some request → has_byte 10 word ≡ false
+    by true f h = same_text word (codes "times") f refl
+    by false f h = absurd cc
+
 -- nor have the texts from {id} on
 in_job : (method : Method) (id : List ℕ) (rest : List (List ℕ)) (request : Request) → job_request method id rest ≡ Some request → lacks_lf (id ∷ rest)
 in_job Get id [] request is = one_more id [] (in_view id request _ _ refl refl is) refl
-in_job Get id (action ∷ rest) request is = absurd cc
+in_job Get id (word ∷ []) request is = in_times id word request (request_number_of id) refl is
+in_job Get id (word ∷ more ∷ rest) request is = absurd cc
 in_job Post id [] request is = absurd cc
 in_job Post id (action ∷ []) request is = in_posted id action request (request_number_of id) refl is
 in_job Post id (action ∷ more ∷ rest) request is = absurd cc

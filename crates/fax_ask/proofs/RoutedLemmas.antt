@@ -16,9 +16,9 @@ use Rattle.fax_ask.specs.declared.request.ReportKind.TheVariants.{Call, Page, Ou
 use Rattle.fax_ask.specs.declared.request.Request.{Request}
 use Rattle.fax_ask.specs.declared.request.Request.TheVariants as request
 use Rattle.fax_ask.specs.declared.routes.Route.{Route}
-use Rattle.fax_ask.specs.declared.routes.Route.TheVariants.{Jobs, Job, OnJob, Modems, Mark, Next, OnGrant, Imports, Floor}
+use Rattle.fax_ask.specs.declared.routes.Route.TheVariants.{Jobs, Job, OnJob, Times, Modems, Mark, Next, OnGrant, Imports, Floor}
 use Rattle.fax_ask.specs.Path.{parts, two_texts}
-use Rattle.fax_ask.specs.Request.{grant_report, grant_request, job_action, job_request, jobs_request, modem_action, modem_request, modems_request, grants_request, imports_request, numbers_request, root_request, path_request, request_of}
+use Rattle.fax_ask.specs.Request.{grant_report, grant_request, job_action, job_request, job_times, jobs_request, modem_action, modem_request, modems_request, grants_request, imports_request, numbers_request, root_request, path_request, request_of}
 use Rattle.fax_ask.specs.Routes.{posted, route_request, shown, table}
 use Rattle.fax_ask.proofs.CutLemmas.{IsTextIfSome, parts_left, both_texts, cut, same_bytes}
 use Rattle.fax_ask.proofs.PathLemmas.{filled}
@@ -41,7 +41,8 @@ action w name value = (name, id_route w (47 ∷ name) value)
 abbrev of_jobs : List (List ℕ × Entry)
 of_jobs =
     action (codes "/jobs/") (codes "alter") (OnJob Alter) ∷ action (codes "/jobs/") (codes "kill") (OnJob Kill)
-    ∷ action (codes "/jobs/") (codes "resume") (OnJob Resume) ∷ action (codes "/jobs/") (codes "suspend") (OnJob Suspend) ∷ []
+    ∷ action (codes "/jobs/") (codes "resume") (OnJob Resume) ∷ action (codes "/jobs/") (codes "suspend") (OnJob Suspend)
+    ∷ action (codes "/jobs/") (codes "times") Times ∷ []
 
 abbrev of_modems : List (List ℕ × Entry)
 of_modems =
@@ -139,16 +140,21 @@ by_method names value id get post another Another = another
 
 -- a word behind a job's number says which request it is
 job_word : (id : List ℕ) → IsUtf8 id → has_slash id ≡ false → (name : List ℕ) (value : Route)
-    → jobs_request Post (id ∷ name ∷ []) ≡ posted value (Some id) → shown value (Some id) ≡ None
+    → jobs_request Post (id ∷ name ∷ []) ≡ posted value (Some id) → jobs_request Get (id ∷ name ∷ []) ≡ shown value (Some id)
     → part_of (codes "/jobs/" ++ (codes "{id}" ++ 47 ∷ name)) 7 9 ≡ codes "id"
     → Says (λ method. jobs_request method (id ∷ name ∷ [])) (codes "/jobs/" ++ (id ++ 47 ∷ name)) (Some (id_route (codes "/jobs/") (47 ∷ name) value))
 job_word id u f name value post get key =
     middle_says (codes "/jobs/") name value (λ method. jobs_request method (id ∷ name ∷ [])) id refl key u f
-    (by_method (λ method. jobs_request method (id ∷ name ∷ [])) value id (sym get) post refl)
+    (by_method (λ method. jobs_request method (id ∷ name ∷ [])) value id get post refl)
 
 -- no other word is an action on a job
 no_job_action : (job : ℕ) (text : List ℕ) → NoneIs text of_jobs → job_action job text ≡ None
 no_job_action job text none = rw (none.1.1.1.0, none.1.1.0, none.1.0, none.0)
+
+-- nor that of its times
+no_job_times : (o : Option ℕ) (text : List ℕ) → NoneIs text of_jobs → option_and_then (λ job. job_times job text) o ≡ None
+no_job_times None text none = refl
+no_job_times (Some job) text none = rw none.1.1.1.1.0
 
 -- so none names a request behind what may be a number
 no_job_word : (o : Option ℕ) (text : List ℕ) → NoneIs text of_jobs → option_and_then (λ job. job_action job text) o ≡ None
@@ -158,31 +164,45 @@ no_job_word (Some job) text none = no_job_action job text none
 -- nor does anything with an empty number
 no_job : (method : Method) (rest : List (List ℕ)) → job_request method [] rest ≡ None
 no_job Get [] = refl
-no_job Get (x ∷ rest) = refl
+no_job Get (x ∷ []) = refl
+no_job Get (x ∷ y ∷ rest) = refl
 no_job Post [] = refl
 no_job Post (x ∷ []) = refl
 no_job Post (x ∷ y ∷ rest) = refl
 no_job Another rest = refl
 
+-- an action isn't shown
+no_shown : (o : Option ℕ) (text : List ℕ) → bytes_eq text (codes "times") ≡ false → option_and_then (λ job. job_times job text) o ≡ None
+no_shown None text other = refl
+no_shown (Some job) text other = rw other
+
+-- and the times aren't posted
+no_posted : (o : Option ℕ) → option_and_then (λ job. job_action job (codes "times")) o ≡ None
+no_posted None = refl
+no_posted (Some job) = refl
+
 -- the routes behind `/jobs/` are a collection
 jobs_are : IsCollection (codes "/jobs/") jobs_request job_end of_jobs
 jobs_are = record {
-  apart = (refl, refl, plain refl refl, (refl, refl, plain refl refl, (refl, refl, plain refl refl, (refl, refl, plain refl refl, tt))));
+  apart = (refl, refl, plain refl refl, (refl, refl, plain refl refl, (refl, refl, plain refl refl, (refl, refl, plain refl refl, (refl, refl, plain refl refl, tt)))));
   some = refl;
   no_id = λ rest method. no_job method rest;
   last = λ id u. last_says (codes "/jobs/") Job (λ method. jobs_request method (id ∷ [])) id refl refl u
       (by_method (λ method. jobs_request method (id ∷ [])) Job id refl refl refl);
   words = λ id u f. (
-    job_word id u f (codes "alter") (OnJob Alter) refl refl refl,
+    job_word id u f (codes "alter") (OnJob Alter) refl (no_shown (request_number_of id) (codes "alter") refl) refl,
     (
-      job_word id u f (codes "kill") (OnJob Kill) refl refl refl,
+      job_word id u f (codes "kill") (OnJob Kill) refl (no_shown (request_number_of id) (codes "kill") refl) refl,
       (
-        job_word id u f (codes "resume") (OnJob Resume) refl refl refl,
-        (job_word id u f (codes "suspend") (OnJob Suspend) refl refl refl, tt),
+        job_word id u f (codes "resume") (OnJob Resume) refl (no_shown (request_number_of id) (codes "resume") refl) refl,
+        (
+          job_word id u f (codes "suspend") (OnJob Suspend) refl (no_shown (request_number_of id) (codes "suspend") refl) refl,
+          (job_word id u f (codes "times") Times (no_posted (request_number_of id)) refl refl, tt),
+        ),
       ),
     ),
   );
-  others = λ id text none method. elim method as (λ m. jobs_request m (id ∷ text ∷ []) ≡ None) [ Get ↦ refl | Post ↦ no_job_word (request_number_of id) text none | Another ↦ refl ];
+  others = λ id text none method. elim method as (λ m. jobs_request m (id ∷ text ∷ []) ≡ None) [ Get ↦ no_job_times (request_number_of id) text none | Post ↦ no_job_word (request_number_of id) text none | Another ↦ refl ];
   longer = λ id text more rest method. elim method as (λ m. jobs_request m (id ∷ text ∷ more ∷ rest) ≡ None) [ Get ↦ refl | Post ↦ refl | Another ↦ refl ];
 }
 

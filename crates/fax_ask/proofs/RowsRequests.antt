@@ -51,6 +51,26 @@ newest_killed : request_of Post (codes "/jobs/newest/kill") ≡ None
 unfolding request_of
 newest_killed = refl
 
+times : request_of Get (codes "/jobs/9/times") ≡ Some (Show (view.Times 9))
+unfolding request_of
+times = refl
+
+times_posted : request_of Post (codes "/jobs/9/times") ≡ None
+unfolding request_of
+times_posted = refl
+
+times_of_the_newest : request_of Get (codes "/jobs/newest/times") ≡ None
+unfolding request_of
+times_of_the_newest = refl
+
+below_the_times : request_of Get (codes "/jobs/9/times/") ≡ None
+unfolding request_of
+below_the_times = refl
+
+another_word_of_a_job : request_of Get (codes "/jobs/9/kill") ≡ None
+unfolding request_of
+another_word_of_a_job = refl
+
 modems : request_of Get (codes "/modems") ≡ Some (Show view.Modems)
 unfolding request_of
 modems = refl

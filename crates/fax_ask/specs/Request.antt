@@ -26,9 +26,14 @@ job_action job action =
 abbrev pub job_view : List ℕ → Option View
 job_view id = if bytes_eq id (codes "newest") then Some view.Newest else option_map view.Job (request_number_of id)
 
--- GET /jobs/{id}, and what is posted below it
+-- GET /jobs/{id}/times
+abbrev pub job_times : ℕ → List ℕ → Option Request
+job_times job word = if bytes_eq word (codes "times") then Some (Show (view.Times job)) else None
+
+-- GET /jobs/{id}, and what stands below it
 abbrev pub job_request : Method → List ℕ → List (List ℕ) → Option Request
 job_request Get id [] = option_map Show (job_view id)
+job_request Get id (word ∷ []) = option_and_then (λ job. job_times job word) (request_number_of id)
 job_request Post id (action ∷ []) = option_and_then (λ job. job_action job action) (request_number_of id)
 job_request method id rest = None
 

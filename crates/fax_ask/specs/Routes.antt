@@ -12,7 +12,7 @@ use Rattle.fax_ask.specs.declared.method.Method.TheVariants.{Get, Post, Another}
 use Rattle.fax_ask.specs.declared.request.Request.{Request}
 use Rattle.fax_ask.specs.declared.request.Request.TheVariants as request
 use Rattle.fax_ask.specs.declared.routes.Route.{Route}
-use Rattle.fax_ask.specs.declared.routes.Route.TheVariants.{Jobs, Job, OnJob, Modems, Mark, Next, OnGrant, Imports, Floor}
+use Rattle.fax_ask.specs.declared.routes.Route.TheVariants.{Jobs, Job, OnJob, Times, Modems, Mark, Next, OnGrant, Imports, Floor}
 use Rattle.fax_ask.specs.declared.routes.TheConstants.{ROUTES}
 use Rattle.fax_ask.specs.declared.view.View.TheVariants as view
 use Rattle.fax_ask.specs.Request.{job_view}
@@ -45,6 +45,7 @@ modem_in id = option_and_then (λ text. if is_name text then Some text else None
 abbrev pub posted : Route → Option (List ℕ) → Option Request
 posted Jobs id = Some request.Submit
 posted Job id = None
+posted Times id = None
 posted Modems id = None
 posted Imports id = Some request.Import
 posted Floor id = Some request.Floor
@@ -57,6 +58,7 @@ posted (OnGrant kind) id = option_map (λ grant. request.OnGrant grant kind) (nu
 abbrev pub shown : Route → Option (List ℕ) → Option Request
 shown Jobs id = Some (request.Show view.Jobs)
 shown Job id = option_map request.Show (option_and_then job_view id)
+shown Times id = option_map (λ job. request.Show (view.Times job)) (number_in id)
 shown Modems id = Some (request.Show view.Modems)
 shown other id = None
 

@@ -34,7 +34,7 @@ pub enum Answer<'a> {
     Called { stop: bool },
     /// How many pages of the job are confirmed, and whether the worker is to stop.
     Confirmed { npages: u16, stop: bool },
-    /// Key lines: those of a job (sendq(5)), or one for each modem.
+    /// Key lines: those of a job (sendq(5)) or of its times, or one for each modem.
     Lines(&'a [u8]),
     /// The listing of jobs (faxstat(1)).
     Listing(&'a [u8]),

@@ -61,6 +61,7 @@ fn shown(route: Route, id: Option<&str>) -> Option<Request<'static>>
     match route {
         Route::Jobs => Some(Request::Show(View::Jobs)),
         Route::Job => Some(Request::Show(job_view(id?)?)),
+        Route::Times => Some(Request::Show(View::Times { job: number(id)? })),
         Route::Modems => Some(Request::Show(View::Modems)),
         _ => None,
     }
@@ -84,7 +85,7 @@ fn posted(route: Route, id: Option<&str>) -> Option<Request<'_>>
 {
     match route {
         Route::Jobs => Some(Request::Submit),
-        Route::Job | Route::Modems => None,
+        Route::Job | Route::Times | Route::Modems => None,
         Route::Imports => Some(Request::Import),
         Route::OnJob(action) => Some(Request::OnJob {
             job: number(id)?,

@@ -15,6 +15,7 @@ pub(crate) enum Route {
     Jobs,
     Job,
     OnJob(Action),
+    Times,
     Mark { down: bool },
     Modems,
     Next,
@@ -24,13 +25,14 @@ pub(crate) enum Route {
 }
 
 /// The pattern of each route: `{id}` is the number of a job or a grant, or the name of a modem.
-static ROUTES: [(&str, Route); 15] = [
+static ROUTES: [(&str, Route); 16] = [
     ("/jobs", Route::Jobs),
     ("/jobs/{id}", Route::Job),
     ("/jobs/{id}/suspend", Route::OnJob(Action::Suspend)),
     ("/jobs/{id}/resume", Route::OnJob(Action::Resume)),
     ("/jobs/{id}/kill", Route::OnJob(Action::Kill)),
     ("/jobs/{id}/alter", Route::OnJob(Action::Alter)),
+    ("/jobs/{id}/times", Route::Times),
     ("/modems", Route::Modems),
     ("/modems/{id}/ready", Route::Mark { down: false }),
     ("/modems/{id}/down", Route::Mark { down: true }),

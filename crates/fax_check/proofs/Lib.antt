@@ -3,6 +3,8 @@ pub mod BridgeLemmas
 pub mod TellsLemmas
 pub mod RowsLemmas
 pub mod TallyLemmas
+pub mod JoinLemmas
+pub mod TimedLemmas
 pub mod TableLemmas
 pub mod LookLemmas
 pub mod NumberLemmas

@@ -13,7 +13,7 @@ use Rattle.sqlite.specs.Effect.{Database}
 use Rattle.sqlite.specs.Order.{Row, column}
 use Rattle.sqlite.specs.Tree.{IsTable}
 use Rattle.sqlite.specs.declared.types.Value.{Value}
-use Rattle.sqlite.specs.declared.types.Value.TheVariants.{Int, Text}
+use Rattle.sqlite.specs.declared.types.Value.TheVariants.{Int, Null, Text}
 use Rattle.sqlite_rules.specs.Lists.{Has}
 use Rattle.sqlite_rules.proofs.ListLemmas.{all_from, all_has, has_filtered, has_found, has_kept, some_from, some_has}
 use Rattle.sqlite_rules.proofs.ProbeLemmas.{mapped_has}
@@ -25,20 +25,22 @@ use Rattle.fax_core.specs.Job.{Job, fields_of, job_of}
 use Rattle.fax_core.specs.Ledger.{Ledger, IsLawfulEntry}
 use Rattle.fax_core.specs.Queue.{Queue, grant_numbered, job_numbered, open_grants}
 use Rattle.fax_core.specs.Sound.{AscendBetween, FitsFree, FitsGrant, IsJob, IsOpen, Sound}
+use Rattle.fax_core.specs.Times.{AreTimed}
 use Rattle.fax_core.specs.State.{calls_to, is_of_number}
 use Rattle.fax_core.specs.declared.grants.Grant.{Grant}
 use Rattle.fax_value.specs.Name.{IsName}
 use Rattle.fax_job.specs.declared.job.JobFields.{JobFields}
 use Rattle.fax_schema.proofs.ColumnLemmas.{record_of}
 use Rattle.fax_schema.proofs.EditLemmas.{has_mapped, has_permuted}
-use Rattle.fax_schema.specs.Schema.{calls_tree, down_tree, floors_tree, grants_tree, holds_tree, jobs_tree, replies_tree}
+use Rattle.fax_schema.specs.Schema.{calls_tree, down_tree, floors_tree, grants_tree, holds_tree, jobs_tree, replies_tree, times_tree}
 use Rattle.fax_tables.proofs.KeyLemmas.{only_numbered}
 use Rattle.fax_tables.specs.Job.{IsLawfulJob}
 use Rattle.fax_tables.specs.Meta.{meta_of}
-use Rattle.fax_tables.specs.Row.{call_columns, down_columns, entry_columns, grant_row, hold_columns, job_row}
-use Rattle.fax_tables.specs.Tables.{IsLawfulGrant, TablesMean}
+use Rattle.fax_tables.specs.Row.{call_columns, down_columns, entry_columns, grant_row, hold_columns, job_row, number, phase_number, times_row}
+use Rattle.fax_tables.specs.Tables.{AreLawfulTimes, IsLawfulGrant, TablesMean}
+use Rattle.fax_check.proofs.TimedLemmas.{job_with, low_phase, times_of}
 use Rattle.fax_check.specs.Meant.{HoldRowsAreRight, SoundRowsAreWhole, holder_of}
-use Rattle.fax_check.specs.Whole.{IsWholeTable, passed, Holder, IsCallRow, IsDownRow, IsFloorRow, IsGrantRow, IsHeld, IsJobRow, IsReplyRow, IsRightHolder, Stands, dialing, holder_columns}
+use Rattle.fax_check.specs.Whole.{IsWholeTable, passed, Holder, IsCallRow, IsDownRow, IsFloorRow, IsGrantRow, IsHeld, IsJobRow, IsReplyRow, IsRightHolder, IsTimed, IsTimesRow, Stands, dialing, holder_columns}
 
 -- ---- lists
 
@@ -191,6 +193,37 @@ module _ (db : Database) (m : Queue) (k : Ledger) (means : TablesMean db m k) wh
       let lawful = means.lawful.floors it.0 it.2 in
       (it.0, k.floor it.0, it.1, lawful.0, it.2, lawful.1)
 
+  -- ---- times
+
+  module _ (timed : AreTimed m.jobs m.times) where
+    -- a row of times is that of a job's
+    times_is : (row : Row) → Has (db.trees times_tree) row → IsTimesRow db row
+    times_is row has =
+        let it = has_mapped times_row m.times row (subst (λ rows. Has rows row) means.times has) in
+        let x = it.0 in
+        let j = job_with m.jobs m.times timed x it.1 in
+        let lawful = of_all AreLawfulTimes m.times x means.lawful.times it.1 in
+        let id : column row 0 ≡ number x.job = ap (λ r. column r 0) it.2 in
+        record {
+          submitted = x.submitted;
+          ended = x.ended;
+          is = it.2 ∙ ap (λ v. v ∷ Null ∷ number x.submitted ∷ number x.ended ∷ []) (sym id);
+          moments = (lawful.submitted, lawful.ended);
+          job = job_row (fields_of j.0);
+          has_job = job_stands j.0 j.1;
+          its = ap number (sym j.2.job) ∙ sym id;
+          phase = phase_number (j.0).phase;
+          in_phase = refl;
+          not_over = λ low. j.2.not_over (low_phase (j.0).phase low);
+        }
+
+    -- a row of jobs has times
+    timed_is : (row : Row) → Has (db.trees jobs_tree) row → IsTimed db row
+    timed_is row has =
+        let it = job_there row has in
+        let x = times_of m.jobs m.times timed it.0 it.1 in
+        (times_row x.0, subst (λ rows. Has rows (times_row x.0)) (sym means.times) (mapped_has times_row m.times x.0 x.1), ap number x.2.job ∙ sym (ap (λ r. column r 0) it.2))
+
   -- ---- a sound queue with these holders
 
   module _ (sound : Sound m) (held : List Holder) (same : IsPermutation (map holder_columns held) (map (drop 1) (db.trees holds_tree))) where
@@ -330,7 +363,10 @@ sound_rows_are_whole db m k held means sound same right = record {
     grant_is db m k means sound held same,
     (
       job_is db m k means sound held same,
-      (down_is db m k means, (reply_is db m k means, (floor_is db m k means, (call_is db m k means sound held same right, tt)))),
+      (
+        times_is db m k means sound.timed,
+        (timed_is db m k means sound.timed, (down_is db m k means, (reply_is db m k means, (floor_is db m k means, (call_is db m k means sound held same right, tt))))),
+      ),
     ),
   );
   called = All-from_recursion _ held (all_from (IsCalled db held) held (called db m k means sound held same right));

@@ -47,7 +47,7 @@ one_is : (v : Value) (n : ℤ) → v ≡ Int n → are_equal v (number 1) ≡ tr
 one_is v n is same = is ∙ ap Int (one_int n (ap (λ a. are_equal a (number 1)) (sym is) ∙ same))
 
 -- a list of one element
-alone : (rows : List Row) → map (λ r. column r 5) rows ≡ number 2 ∷ [] → (r : Row) → Has rows r → (rows ≡ r ∷ []) × (column r 5 ≡ number 2)
+alone : (rows : List Row) → map (λ r. column r 5) rows ≡ number 3 ∷ [] → (r : Row) → Has rows r → (rows ≡ r ∷ []) × (column r 5 ≡ number 3)
 alone [] is r has = absurd has
 alone (x ∷ []) is r (inl same) = (ap (λ (y : Row). y ∷ []) (sym same), ap (λ (y : Row). column y 5) same ∙ first is)
   where
@@ -84,7 +84,7 @@ module _ (old new : State) (db : Database) (stored : IsStored db) (now : old.now
       let means : TablesMean old.now sound.0 sound.1 = subst (λ d. TablesMean d sound.0 sound.1) (sym now) sound.2 in
       absurd (let no = meta_found old new sound.0 sound.1 means None h in cc)
 
--- a database whose rows mean a queue is of the second version
+-- a database whose rows mean a queue is of the third version
 pub other_version : (db : Database) → ¬ IsOfVersion db → ¬ IsSound db
 other_version db other sound = other (ap (map (λ (r : Row). column r 5)) sound.2.meta)
 

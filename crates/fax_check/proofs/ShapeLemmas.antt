@@ -21,7 +21,7 @@ use Rattle.sqlite_sql.specs.Ops.{is_null}
 use Rattle.fax_check.specs.Sound.{IsStored}
 use Rattle.fax_schema.proofs.RowsLemmas.{listed_at}
 use Rattle.fax_schema.specs.Schema as schema
-use Rattle.fax_schema.specs.Schema.{our_tables, calls_place, calls_tree, grants_tree, holds_tree, jobs_tree, meta_tree, replies_tree}
+use Rattle.fax_schema.specs.Schema.{our_tables, calls_place, calls_tree, grants_tree, holds_tree, jobs_tree, meta_tree, replies_tree, times_tree}
 
 -- ---- a row is the list of its columns
 
@@ -149,6 +149,13 @@ module _ (db : Database) (stored : IsStored db) where
     grant_columns_of has =
         let k = keyed_row (schema.grants).columns r (omega arith) refl (typed schema.grants r has (all_has _ (db.trees grants_tree) r types.1.0 has)) (all_has _ (db.trees grants_tree) r needs.1.0 has) in
         columns_of 9 r k.0 ∙ ap (λ v. column r 0 ∷ v ∷ column r 2 ∷ column r 3 ∷ column r 4 ∷ column r 5 ∷ column r 6 ∷ column r 7 ∷ column r 8 ∷ []) k.1
+
+    -- that of times
+    pub times_columns_of : Has (db.trees times_tree) r → r ≡ column r 0 ∷ Null ∷ column r 2 ∷ column r 3 ∷ []
+    times_columns_of has =
+        let listed = listed_at our_tables.tables 7 schema.times refl in
+        let k = keyed_row (schema.times).columns r (omega arith) refl (typed schema.times r has (keeps_at Datatype our_tables db.trees schema.times r types listed has)) (keeps_at NotNull our_tables db.trees schema.times r needs listed has) in
+        columns_of 4 r k.0 ∙ ap (λ v. column r 0 ∷ v ∷ column r 2 ∷ column r 3 ∷ []) k.1
 
     -- that of meta
     pub meta_columns_of : Has (db.trees meta_tree) r → r ≡ column r 0 ∷ Null ∷ column r 2 ∷ column r 3 ∷ column r 4 ∷ column r 5 ∷ []

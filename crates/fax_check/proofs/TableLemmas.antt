@@ -1,35 +1,42 @@
--- The queries for all rows of each table, and what a pass over these decides: a row is as it has to be just where it shows what it has to.
-use Rattle.std.proofs.Common.{◌≡◌, ℕ, ℤ, List, [], ◌∷◌, All, Option, Some, None, drop, MatchOption, refl, ap, ◌∙◌, arith, codes}
-use Rattle.std.specs.Prelude.{⊤}
+-- What the queries mean, and what a pass over their rows decides: a row is as it has to be just where it shows what it has to.
+use Rattle.std.proofs.Common.{◌≡◌, ℕ, ℤ, List, [], ◌∷◌, All, Option, Some, None, drop, MatchOption, IsTrue, inl, refl, sym, ap, ap₂, subst, ◌∙◌, arith, codes}
 use Rattle.sqlite.specs.Effect.{Database}
-use Rattle.sqlite.specs.Order.{Row}
+use Rattle.sqlite.specs.Edit.{id_in}
+use Rattle.sqlite.specs.Order.{Row, column}
 use Rattle.sqlite.specs.Program.{overlay}
 use Rattle.sqlite.specs.State.{State, Shown}
-use Rattle.sqlite.specs.declared.types.Value.TheVariants.{Text}
+use Rattle.sqlite.specs.Query.{or_nulls}
+use Rattle.sqlite.specs.Tree.{rowid}
+use Rattle.sqlite.specs.View.{is_int}
+use Rattle.sqlite.specs.declared.types.Value.TheVariants.{Null, Text}
 use Rattle.sqlite_rules.specs.Lists.{Has}
-use Rattle.sqlite_sql.specs.Term.{Term, col}
+use Rattle.sqlite_rules.proofs.ListLemmas.{all_has}
+use Rattle.sqlite_rules.proofs.TableLemmas.{int_is}
+use Rattle.sqlite_sql.specs.Term.{Term, col, eval_all}
 use Rattle.sqlite_trees.specs.Tree.{Trees}
 use Rattle.fax_check.specs.Check.{IsTableChecked, Told, flaw_in}
 use Rattle.fax_check.specs.Pass.{IsPassed}
-use Rattle.fax_check.specs.Whole.{Each, Holder, IsCallRow, IsDownRow, IsFloorRow, IsGrantRow, IsJobRow, IsReplyRow, Shows, ShowsCall, ShowsFloor, ShowsGrant, ShowsJob, ShowsName, ShowsReply, text_of}
+use Rattle.fax_check.specs.Whole.{Each, Holder, IsCallRow, IsDownRow, IsFloorRow, IsGrantRow, IsJobRow, IsReplyRow, IsTimed, IsTimesRow, HasInteger, Shows, ShowsCall, ShowsFloor, ShowsGrant, ShowsJob, ShowsName, ShowsReply, ShowsTimes, text_of}
 use Rattle.fax_check.specs.Sound.{IsStored}
-use Rattle.fax_check.specs.declared.tables.Table.{Table}
-use Rattle.fax_check.specs.declared.tables.Table.TheVariants.{Calls, Down, Floors, Grants, Holds, Jobs, Meta as TheMeta, Replies}
+use Rattle.fax_check.specs.declared.tables.Query.{Query}
+use Rattle.fax_check.specs.declared.tables.Query.TheVariants.{Calls, Down, Floors, Grants, Jobs, Replies, Timed, Times}
 use Rattle.fax_check.proofs.BridgeLemmas as bridge
 use Rattle.fax_check.proofs.BridgeLemmas.{at_is, five, two, unshown_grant, unshown_job}
+use Rattle.fax_check.proofs.FieldLemmas.{numbers}
+use Rattle.fax_check.proofs.JoinLemmas.{each_joined, joined_each, joined_query, only_partner, partner_there, partners}
 use Rattle.fax_check.proofs.ShapeLemmas as shape
 use Rattle.fax_schema.proofs.GrantTexts.{grant_names, grant_project}
 use Rattle.fax_schema.proofs.SelectLemmas.{show}
-use Rattle.fax_schema.proofs.StatementForms.{Selects}
-use Rattle.fax_schema.proofs.StatementTexts.{job_names, job_project, select_meta}
+use Rattle.fax_schema.proofs.StatementForms.{Selects, SelectsAll}
+use Rattle.fax_schema.proofs.StatementTexts.{job_names, job_project}
 use Rattle.fax_schema.specs.Schema as schema
-use Rattle.fax_schema.specs.Schema.{calls_tree, down_tree, floors_tree, grants_tree, jobs_tree, replies_tree, holds_tree}
+use Rattle.fax_schema.specs.Schema.{calls_tree, down_tree, floors_tree, grants_tree, jobs_tree, replies_tree, holds_tree, times_tree}
 use Rattle.fax_tables.specs.Row.{entry_columns, number}
 use Rattle.fax_tables.specs.declared.meta.Meta.{Meta}
 use Rattle.fax_core.specs.Queue.{Entry}
 use Rattle.sqlite.specs.Listing.{understood}
 use Rattle.sqlite_tied.specs.Compute.{everything}
-use Rattle.fax_check.specs.declared.tables.TheConstants.{SELECT_ALL_JOBS, SELECT_ALL_GRANTS, SELECT_ALL_HOLDS, SELECT_ALL_DOWN, SELECT_ALL_REPLIES, SELECT_ALL_FLOORS, SELECT_ALL_CALLS}
+use Rattle.fax_check.specs.declared.tables.TheConstants.{SELECT_ALL_JOBS, SELECT_ALL_GRANTS, SELECT_ALL_HOLDS, SELECT_ALL_DOWN, SELECT_ALL_REPLIES, SELECT_ALL_FLOORS, SELECT_ALL_CALLS, SELECT_ALL_TIMES, SELECT_ALL_TIMED}
 use Rattle.fax_store.specs.Store.{IsQueryText}
 
 -- ---- what the queries mean
@@ -77,16 +84,30 @@ pub select_all_calls : Selects SELECT_ALL_CALLS.now calls_tree [] all_calls_proj
 unfolding understood everything
 select_all_calls = record { command = refl; plain = (refl, refl); unlisted = refl }
 
--- the query for all rows of a table only reads
-pub is_query : (table : Table) → IsQueryText (text_of table)
+abbrev pub all_times_project : List Term
+all_times_project = col 1 0 ∷ col 1 2 ∷ col 1 3 ∷ col 2 18 ∷ []
+
+pub select_all_times : SelectsAll SELECT_ALL_TIMES.now (joined_query times_tree jobs_tree all_times_project) (codes "job" ∷ codes "submitted" ∷ codes "ended" ∷ codes "phase" ∷ [])
+unfolding understood everything
+select_all_times = record { command = refl; plain = (refl, refl); unlisted = refl }
+
+abbrev pub all_timed_project : List Term
+all_timed_project = col 1 0 ∷ col 2 0 ∷ []
+
+pub select_all_timed : SelectsAll SELECT_ALL_TIMED.now (joined_query jobs_tree times_tree all_timed_project) (codes "job" ∷ codes "job" ∷ [])
+unfolding understood everything
+select_all_timed = record { command = refl; plain = (refl, refl); unlisted = refl }
+
+-- each query only reads
+pub is_query : (query : Query) → IsQueryText (text_of query)
 is_query Jobs = select_all_jobs.plain
 is_query Grants = select_all_grants.plain
-is_query Holds = select_all_holds.plain
+is_query Times = select_all_times.plain
+is_query Timed = select_all_timed.plain
 is_query Down = select_all_down.plain
 is_query Replies = select_all_replies.plain
 is_query Floors = select_all_floors.plain
 is_query Calls = select_all_calls.plain
-is_query TheMeta = select_meta.plain
 
 -- ---- a row of each table
 
@@ -146,16 +167,72 @@ module _ (db : Database) (stored : IsStored db) (meta : Meta) (held : List Holde
   pub call_shows : IsCallRow held r → ShowsCall held (show calls_tree [] all_calls_project [] r)
   call_shows it = (it.0, it.1, record { within = omega arith; is = at_is r 0 _ it.2 }, record { within = omega arith; is = at_is r 1 _ it.2 })
 
+-- ---- times and jobs
+
+module _ (db : Database) (stored : IsStored db) (r : Row) where
+  of_times : Has (db.trees times_tree) r → IsTrue (is_int (rowid r))
+  of_times has = all_has (λ x. IsTrue (is_int (rowid x))) (db.trees times_tree) r stored.ordered.times.integers has
+
+  of_jobs : Has (db.trees jobs_tree) r → IsTrue (is_int (rowid r))
+  of_jobs has = all_has (λ x. IsTrue (is_int (rowid x))) (db.trees jobs_tree) r stored.ordered.jobs.integers has
+
+  -- times, with the job that is joined to them
+  times_are : Has (db.trees times_tree) r → (found : List Row) → partners (db.trees jobs_tree) r ≡ found → ((s : Row) → Has (or_nulls found) s → ShowsTimes (eval_all all_times_project ([] ∷ r ∷ s ∷ []))) → IsTimesRow db r
+  times_are has [] none shows = absurd (let it = (shows [] (inl refl)).ended.in_phase.is in cc)
+  times_are has (s ∷ more) are shows =
+      let it = shows s (inl refl) in
+      let job = partner_there (db.trees jobs_tree) stored.ordered.jobs r (of_times has) s (subst (λ all. Has all s) (sym are) (inl refl)) in
+      record {
+        submitted = it.submitted.0;
+        ended = it.ended.ended.0;
+        is = shape.times_columns_of db stored r has ∙ ap₂ (λ a b. column r 0 ∷ Null ∷ a ∷ b ∷ []) it.submitted.1.is it.ended.ended.1.is;
+        moments = (it.submitted.2, it.ended.ended.2);
+        job = s;
+        has_job = job.0;
+        its = job.1;
+        phase = it.ended.phase;
+        in_phase = it.ended.in_phase.is;
+        not_over = λ low. numbers it.ended.ended.0 0 (sym it.ended.ended.1.is ∙ (it.ended.not_over low).is);
+      }
+
+  pub times_is : Has (db.trees times_tree) r → ((s : Row) → Has (or_nulls (partners (db.trees jobs_tree) r)) s → ShowsTimes (eval_all all_times_project ([] ∷ r ∷ s ∷ []))) → IsTimesRow db r
+  times_is has shows = times_are has (partners (db.trees jobs_tree) r) refl shows
+
+  pub times_shows : Has (db.trees times_tree) r → IsTimesRow db r → (s : Row) → Has (or_nulls (partners (db.trees jobs_tree) r)) s → ShowsTimes (eval_all all_times_project ([] ∷ r ∷ s ∷ []))
+  times_shows has it s joined =
+      let same = only_partner (db.trees jobs_tree) stored.ordered.jobs r (of_times has) it.job it.has_job it.its s joined in
+      let ended : column r 3 ≡ number it.ended = ap (λ row. column row 3) it.is in
+      record {
+        submitted = (it.submitted, record { within = omega arith; is = ap (λ row. column row 2) it.is }, it.moments.0);
+        ended = record {
+          ended = (it.ended, record { within = omega arith; is = ended }, it.moments.1);
+          phase = it.phase;
+          in_phase = record { within = omega arith; is = ap (λ row. column row 18) same ∙ it.in_phase };
+          not_over = λ low. record { within = omega arith; is = ended ∙ ap number (it.not_over low) };
+        };
+      }
+
+  -- a job, with the times that are joined to it
+  timed_by : Has (db.trees jobs_tree) r → (found : List Row) → partners (db.trees times_tree) r ≡ found → ((s : Row) → Has (or_nulls found) s → HasInteger (eval_all all_timed_project ([] ∷ r ∷ s ∷ [])) 1) → IsTimed db r
+  timed_by has [] none shows = absurd (let it = (shows [] (inl refl)).1.is in cc)
+  timed_by has (s ∷ more) are shows =
+      let times = partner_there (db.trees times_tree) stored.ordered.times r (of_jobs has) s (subst (λ all. Has all s) (sym are) (inl refl)) in
+      (s, times.0, times.1)
+
+  pub timed_is : Has (db.trees jobs_tree) r → ((s : Row) → Has (or_nulls (partners (db.trees times_tree) r)) s → HasInteger (eval_all all_timed_project ([] ∷ r ∷ s ∷ [])) 1) → IsTimed db r
+  timed_is has shows = timed_by has (partners (db.trees times_tree) r) refl shows
+
+  pub timed_shows : Has (db.trees jobs_tree) r → IsTimed db r → (s : Row) → Has (or_nulls (partners (db.trees times_tree) r)) s → HasInteger (eval_all all_timed_project ([] ∷ r ∷ s ∷ [])) 1
+  timed_shows has it s joined =
+      let same = only_partner (db.trees times_tree) stored.ordered.times r (of_jobs has) it.0 it.1 it.2 s joined in
+      (id_in (rowid r), record { within = omega arith; is = ap (λ row. column row 0) same ∙ it.2 ∙ int_is (rowid r) (of_jobs has) })
+
 -- ---- what a pass decides
 
 -- where the rows that are read are as they have to be just where the table is whole, so it is told
-told : (table : Table) (A W : Type 0) → (A → W) → (W → A) → (o : Option ℤ) → MatchOption o A (λ _. ¬ A) → Told W (flaw_in table o)
-told table A W to from None h = to h
-told table A W to from (Some id) h = λ whole. h (from whole)
-
--- nothing is asked of the rows that are read before
-no_flaw : (table : Table) (rows : List Row) (found : Option ℤ) → IsPassed (λ _. ⊤) rows found → Told ⊤ (flaw_in table found)
-no_flaw table rows found t = told table (All (λ _. ⊤) rows) ⊤ (λ all. tt) (λ h i d low. tt) found t
+told : (query : Query) (A W : Type 0) → (A → W) → (W → A) → (o : Option ℤ) → MatchOption o A (λ _. ¬ A) → Told W (flaw_in query o)
+told query A W to from None h = to h
+told query A W to from (Some id) h = λ whole. h (from whole)
 
 module _ (old new : State) (db : Database) (stored : IsStored db) (now : old.now ≡ db) (meta : Meta) (held : List Holder) (rows : List Row) where
   module _ (sql : List ℕ) (tree : ℕ) (project : List Term) (names : List (List ℕ)) (selects : Selects sql tree [] project names) (plain : (trees : Trees) → overlay trees [] tree ≡ trees tree)
@@ -166,12 +243,12 @@ module _ (old new : State) (db : Database) (stored : IsStored db) (now : old.now
     all_is : Each db tree Q → All P rows
     all_is each = bridge.all_each sql tree project names selects plain old new db stored.schema_is now rows shown P (λ r has. shows r (each r has))
 
-    checked : (table : Table) (found : Option ℤ) → IsPassed P rows found → Told (Each db tree Q) (flaw_in table found)
-    checked table found t = told table (All P rows) (Each db tree Q) each_is all_is found t
+    checked : (query : Query) (found : Option ℤ) → IsPassed P rows found → Told (Each db tree Q) (flaw_in query found)
+    checked query found t = told query (All P rows) (Each db tree Q) each_is all_is found t
 
-  -- a table is told to be whole just where it is
-  pub table_checked : (table : Table) (found : Option ℤ) → Shown (text_of table) [] old new rows → IsPassed (Shows meta held table) rows found
-      → IsTableChecked meta held table db (flaw_in table found)
+  -- what a query checks is told to be whole just where it is
+  pub table_checked : (query : Query) (found : Option ℤ) → Shown (text_of query) [] old new rows → IsPassed (Shows meta held query) rows found
+      → IsTableChecked meta held query db (flaw_in query found)
   table_checked Jobs found shown t =
       checked (text_of Jobs) jobs_tree job_project job_names select_all_jobs (λ trees. refl) (Shows meta held Jobs) (IsJobRow meta held) (job_is db stored meta held) (job_shows db stored meta held) shown Jobs found t
   table_checked Grants found shown t =
@@ -184,5 +261,13 @@ module _ (old new : State) (db : Database) (stored : IsStored db) (now : old.now
       checked (text_of Floors) floors_tree all_floors_project _ select_all_floors (λ trees. refl) (Shows meta held Floors) IsFloorRow (floor_is db stored meta held) (floor_shows db stored meta held) shown Floors found t
   table_checked Calls found shown t =
       checked (text_of Calls) calls_tree all_calls_project _ select_all_calls (λ trees. refl) (Shows meta held Calls) (IsCallRow held) (call_is db stored meta held) (call_shows db stored meta held) shown Calls found t
-  table_checked Holds found shown t = no_flaw Holds rows found t
-  table_checked TheMeta found shown t = no_flaw TheMeta rows found t
+  table_checked Times found shown t =
+      told Times (All ShowsTimes rows) (Each db times_tree (IsTimesRow db))
+      (λ all r has. times_is db stored r has (λ s joined. each_joined (text_of Times) times_tree jobs_tree all_times_project _ select_all_times (λ trees. refl) (λ trees. refl) old new db stored.schema_is now rows shown ShowsTimes all r s has joined))
+      (λ each. joined_each (text_of Times) times_tree jobs_tree all_times_project _ select_all_times (λ trees. refl) (λ trees. refl) old new db stored.schema_is now rows shown ShowsTimes (λ r s has joined. times_shows db stored r has (each r has) s joined))
+      found t
+  table_checked Timed found shown t =
+      told Timed (All (λ row. HasInteger row 1) rows) (Each db jobs_tree (IsTimed db))
+      (λ all r has. timed_is db stored r has (λ s joined. each_joined (text_of Timed) jobs_tree times_tree all_timed_project _ select_all_timed (λ trees. refl) (λ trees. refl) old new db stored.schema_is now rows shown (λ row. HasInteger row 1) all r s has joined))
+      (λ each. joined_each (text_of Timed) jobs_tree times_tree all_timed_project _ select_all_timed (λ trees. refl) (λ trees. refl) old new db stored.schema_is now rows shown (λ row. HasInteger row 1) (λ r s has joined. timed_shows db stored r has (each r has) s joined))
+      found t

@@ -1,5 +1,5 @@
 -- Rows that are each as they have to be mean a sound queue.
-use Rattle.std.proofs.Common.{◌≡◌, ◌≢◌, inl, inr, ◌<◌, ◌≤◌, ℕ, List, leb, length, map, filter, drop, Bool, true, Option, Some, None, IsTrue, refl, sym, ap, subst, ◌∙◌, arith}
+use Rattle.std.proofs.Common.{◌≡◌, ◌≢◌, inl, inr, ◌<◌, ◌≤◌, ℕ, List, [], ◌∷◌, false, leb, length, map, filter, drop, Bool, true, Option, Some, None, IsTrue, refl, sym, ap, subst, ◌∙◌, arith}
 use Rattle.std.specs.Prelude.{◌==◌}
 use Rattle.std.specs.List.Sorted.{IsPermutation}
 use Rattle.std.specs.Str.{bytes_eq}
@@ -9,26 +9,30 @@ use Rattle.std.proofs.lemmas.List.Elements.{recursion_from_All}
 use Rattle.std.proofs.lemmas.List.Sorted.{IsPermutation-map, IsPermutation-trans, length_permutation}
 use Rattle.std.proofs.lemmas.Slice.Eq.{bytes_eq-Decides}
 use Rattle.sqlite.specs.Effect.{Database}
-use Rattle.sqlite.specs.Order.{Row}
+use Rattle.sqlite.specs.Order.{Row, column}
 use Rattle.sqlite.specs.Tree.{IsTable}
+use Rattle.sqlite.specs.declared.types.Value.TheVariants.{Null}
 use Rattle.sqlite_rules.specs.Lists.{Has}
 use Rattle.sqlite_rules.proofs.ListLemmas.{all_from, all_has, has_filtered, has_found, has_kept}
 use Rattle.sqlite_rules.proofs.ProbeLemmas.{mapped_has}
 use Rattle.sqlite_trees.proofs.ListLemmas.{IsPermutation-filter, ascending-filter, ascending-map, ascending_weaker, filter-map, filter_same, map-map}
 use Rattle.fax_check.specs.Sound.{IsSound, IsStored}
-use Rattle.fax_check.specs.declared.tables.Table.TheVariants.{Calls, Down, Floors, Grants, Jobs, Replies}
+use Rattle.fax_check.specs.declared.tables.Query.TheVariants.{Calls, Down, Floors, Grants, Jobs, Replies, Timed, Times}
 use Rattle.fax_check.specs.Whole.{AreWhole, Holder, IsWholeTable, IsHeld, IsRightHolder, Stands, dialing, holder_columns}
-use Rattle.fax_check.proofs.FieldLemmas.{dial_of as dialed_by, fit_of, number_of, one_grant, same_holder}
+use Rattle.fax_check.proofs.FieldLemmas.{dial_of as dialed_by, fit_of, number_of, numbers, one_grant, same_holder}
 use Rattle.fax_check.proofs.FloorLemmas.{IsLawfulFloor, columns_of, floor_in, floors_counted, floors_lawful}
 use Rattle.fax_check.proofs.HeldLemmas.{held_apart, one_of_job, one_of_modem}
 use Rattle.fax_check.proofs.MadeLemmas.{ascend, AreApart, Made, all_each, made, made_columns, one_there, rising, same_elements, some_length}
 use Rattle.fax_check.proofs.OnceLemmas.{clients_once}
+use Rattle.fax_check.proofs.TimedLemmas.{all_timed, not_over}
 use Rattle.fax_core.specs.Fits.{fits}
 use Rattle.fax_core.specs.Job.{Job, fields_of, job_of}
 use Rattle.fax_core.specs.Ledger.{Ledger, IsLawfulEntry}
 use Rattle.fax_core.specs.Machine.{dial_of}
 use Rattle.fax_core.specs.Queue.{Queue, grant_numbered, job_numbered, open_grants}
 use Rattle.fax_core.specs.Sound.{AscendBetween, Fits, FitsFree, IsJob, IsOpen, Sound}
+use Rattle.fax_core.specs.Times.{AreTimed, FitsTimes, has_ended}
+use Rattle.fax_core.specs.declared.times.Times.{Times as TimesOf}
 use Rattle.fax_core.specs.State.{calls_to, is_of_number}
 use Rattle.fax_core.specs.declared.grants.Grant.{Grant}
 use Rattle.fax_core.proofs.FitsLemmas.{fits_decides, record_again}
@@ -36,11 +40,11 @@ use Rattle.fax_core.proofs.RecordLemmas.{within_limits_of}
 use Rattle.fax_value.specs.Limits.{last_job}
 use Rattle.fax_value.specs.Name.{IsName}
 use Rattle.fax_job.specs.declared.job.JobFields.{JobFields}
-use Rattle.fax_schema.specs.Schema.{calls_tree, down_tree, floors_tree, grants_tree, holds_tree, jobs_tree, replies_tree}
+use Rattle.fax_schema.specs.Schema.{calls_tree, down_tree, floors_tree, grants_tree, holds_tree, jobs_tree, replies_tree, times_tree}
 use Rattle.fax_schema.proofs.EditLemmas.{has_mapped}
 use Rattle.fax_tables.specs.Job.{IsLawfulJob}
-use Rattle.fax_tables.specs.Row.{job_row, grant_row, hold_columns, down_columns, entry_columns, call_columns}
-use Rattle.fax_tables.specs.Tables.{AreCounted, HaveJobs, IsLawfulGrant, TablesMean}
+use Rattle.fax_tables.specs.Row.{job_row, grant_row, hold_columns, down_columns, entry_columns, call_columns, number, phase_number, times_row}
+use Rattle.fax_tables.specs.Tables.{AreCounted, AreLawfulTimes, HaveJobs, IsLawfulGrant, TablesMean}
 use Rattle.fax_tables.specs.declared.meta.Meta.{Meta}
 use Rattle.fax_tables.proofs.KeyLemmas.{only_numbered}
 use Rattle.fax_tables.proofs.TablesLemmas.{counted_as, row_of}
@@ -68,17 +72,23 @@ module _ (db : Database) (meta : Meta) (held : List Holder) (stored : IsStored d
   whole_jobs : IsWholeTable meta held db Jobs
   whole_jobs = whole.tables 1 Grants (omega arith)
 
+  whole_times : IsWholeTable meta held db Times
+  whole_times = whole.tables 2 Grants (omega arith)
+
+  whole_timed : IsWholeTable meta held db Timed
+  whole_timed = whole.tables 3 Grants (omega arith)
+
   whole_down : IsWholeTable meta held db Down
-  whole_down = whole.tables 2 Grants (omega arith)
+  whole_down = whole.tables 4 Grants (omega arith)
 
   whole_replies : IsWholeTable meta held db Replies
-  whole_replies = whole.tables 3 Grants (omega arith)
+  whole_replies = whole.tables 5 Grants (omega arith)
 
   whole_floors : IsWholeTable meta held db Floors
-  whole_floors = whole.tables 4 Grants (omega arith)
+  whole_floors = whole.tables 6 Grants (omega arith)
 
   whole_calls : IsWholeTable meta held db Calls
-  whole_calls = whole.tables 5 Grants (omega arith)
+  whole_calls = whole.tables 7 Grants (omega arith)
 
   -- ---- the queue
 
@@ -87,6 +97,21 @@ module _ (db : Database) (meta : Meta) (held : List Holder) (stored : IsStored d
 
   jobs_made : Made job_row IsJobOf (db.trees jobs_tree)
   jobs_made = made job_row IsJobOf (db.trees jobs_tree) (λ r has. let it = whole_jobs r has in (it.job, it.is, (it.lawful, it.before, it.stands)))
+
+  -- times are of one of the jobs
+  abbrev AreTimesOf : TimesOf → Type 0
+  AreTimesOf x = AreLawfulTimes x × (f : JobFields) × Has jobs_made.of f × (f.job ≡ x.job) × (has_ended f.phase ≡ false → x.ended ≡ 0)
+
+  times_made : Made times_row AreTimesOf (db.trees times_tree)
+  times_made = made times_row AreTimesOf (db.trees times_tree) (λ r has.
+      let it = whole_times r has in
+      let f = has_mapped job_row jobs_made.of it.job (subst (λ rows. Has rows it.job) jobs_made.is it.has_job) in
+      let number_is : column r 0 ≡ number (f.0).job = sym it.its ∙ ap (λ row. column row 0) f.2 in
+      let phase_is : it.phase ≡ phase_number (f.0).phase = numbers it.phase (phase_number (f.0).phase) (sym it.in_phase ∙ ap (λ row. column row 18) f.2) in (
+        record { job = (f.0).job; submitted = it.submitted; ended = it.ended },
+        it.is ∙ ap (λ v. v ∷ Null ∷ number it.submitted ∷ number it.ended ∷ []) number_is,
+        (record { submitted = it.moments.0; ended = it.moments.1 }, f.0, f.1, refl, λ going. it.not_over (not_over (f.0).phase it.phase phase_is going)),
+      ))
 
   abbrev IsGrantOf : Grant → Type 0
   IsGrantOf g = IsLawfulGrant g × (g.number < meta.next_grant) × (IsTrue g.is_open → IsHeld held g)
@@ -106,7 +131,7 @@ module _ (db : Database) (meta : Meta) (held : List Holder) (stored : IsStored d
       (record { client = it.0; upto = it.1 }, it.2, record { name = it.3; some = it.4; low = it.5 }))
 
   abbrev queue : Queue
-  queue = record { jobs = map job_of jobs_made.of; grants = grants_made.of; down = down_made.of; clock = meta.clock; next_job = meta.next_job; next_grant = meta.next_grant }
+  queue = record { jobs = map job_of jobs_made.of; grants = grants_made.of; down = down_made.of; times = times_made.of; clock = meta.clock; next_job = meta.next_job; next_grant = meta.next_grant }
 
   abbrev ledger : Ledger
   ledger = record { replies = replies_made.of; floor = floor_in floors_made.of }
@@ -157,6 +182,30 @@ module _ (db : Database) (meta : Meta) (held : List Holder) (stored : IsStored d
     where
       within : (g : Grant) → Has queue.grants g → (0 < g.number) × (g.number < queue.next_grant)
       within g has = let it = grants_made.each g has in (it.0.limits.number.0, it.1)
+
+  -- ---- its times
+
+  times_rise : IsTable (map times_row queue.times)
+  times_rise = subst IsTable times_made.is stored.ordered.times.rise
+
+  -- each job has its times
+  its_times : (j : Job) → Has queue.jobs j → (x : TimesOf) × Has queue.times x × (x.job ≡ j.number)
+  its_times j has =
+      let f = has_mapped job_of jobs_made.of j has in
+      let timed = whole_timed (job_row f.0) (subst (λ rows. Has rows (job_row f.0)) (sym jobs_made.is) (mapped_has job_row jobs_made.of f.0 f.1)) in
+      let x = has_mapped times_row times_made.of timed.0 (subst (λ rows. Has rows timed.0) times_made.is timed.1) in
+      (x.0, x.1, numbers (x.0).job (f.0).job (sym (ap (λ row. column row 0) x.2) ∙ timed.2) ∙ sym (ap (λ (j : Job). j.number) f.2))
+
+  -- and times have their job
+  their_job : (x : TimesOf) → Has queue.times x → (j : Job) × Has queue.jobs j × FitsTimes j x
+  their_job x has =
+      let it = times_made.each x has in
+      (job_of it.1, mapped_has job_of jobs_made.of it.1 it.2, record { job = sym it.3; not_over = it.4 })
+
+  timed : AreTimed queue.jobs queue.times
+  timed =
+      all_timed queue.jobs queue.times (rising row_of (λ (j : Job). j.number) (λ j. refl) queue.jobs jobs_rise) (rising times_row (λ (x : TimesOf). x.job) (λ x. refl) queue.times times_rise)
+      its_times their_job
 
   -- ---- holders
 
@@ -293,6 +342,7 @@ module _ (db : Database) (meta : Meta) (held : List Holder) (stored : IsStored d
     down = down_made.is;
     replies = replies_made.is;
     floors = floors_counted (db.trees floors_tree) stored.ordered.floors (clients_once db stored.schema_is stored.sound) floors_made.of floors_made.is floors_made.each;
+    times = times_made.is;
     meta = whole.meta_is;
     held = have_jobs;
     calls = counted_as (λ dial. dialing dial held) (λ dial. calls_to dial queue) (map (drop 1) (db.trees calls_tree)) calls_are dialed;
@@ -303,6 +353,7 @@ module _ (db : Database) (meta : Meta) (held : List Holder) (stored : IsStored d
       down = all_each IsName queue.down down_made.each;
       replies = all_each IsLawfulEntry ledger.replies replies_made.each;
       meta = whole.numbers queue;
+      times = all_each AreLawfulTimes queue.times (λ x has. (times_made.each x has).0);
       floors = floors_lawful (db.trees floors_tree) stored.ordered.floors (clients_once db stored.schema_is stored.sound) floors_made.of floors_made.is floors_made.each;
     };
   }
@@ -364,6 +415,7 @@ module _ (db : Database) (meta : Meta) (held : List Holder) (stored : IsStored d
     one_to_a_modem = one_to_a_modem;
     one_of_a_job = one_of_a_job;
     held = held_fits;
+    timed = timed;
     free = free_fits;
   }
 

@@ -6,9 +6,9 @@ use Rattle.sqlite.specs.Order.{Row}
 use Rattle.sqlite_rules.specs.Lists.{Has}
 use Rattle.fax_core.specs.Queue.{Queue}
 use Rattle.fax_check.specs.Sound.{IsSound}
-use Rattle.fax_check.specs.Whole.{Holder, IsRightHolder, IsWholeTable, dialing, holder_columns, numbers_row, passed}
+use Rattle.fax_check.specs.Whole.{Holder, IsRightHolder, IsWholeTable, dialing, holder_columns, numbers_row, passed, table_of}
 use Rattle.fax_check.specs.declared.tables.Flaw.{Flaw}
-use Rattle.fax_check.specs.declared.tables.Table.{Table}
+use Rattle.fax_check.specs.declared.tables.Query.{Query}
 use Rattle.fax_schema.specs.Schema.{calls_tree, holds_tree, meta_tree}
 use Rattle.fax_tables.specs.Meta.{with_meta}
 use Rattle.fax_tables.specs.Row.{call_columns, number}
@@ -33,9 +33,9 @@ abbrev pub AreNumbers : Database → Option Meta → Type 0
 AreNumbers db (Some meta) = HasNumbers db meta
 AreNumbers db None = ¬ IsSound db
 
--- meta has one row, of the second version
+-- meta has one row, of the third version
 abbrev pub IsOfVersion : Database → Type 0
-IsOfVersion db = versions db ≡ number 2 ∷ []
+IsOfVersion db = versions db ≡ number 3 ∷ []
 
 -- the rows of holds have these holders, in any order, and each is right
 pub record HasHolders (db : Database) (held : List Holder) : Type 0 where
@@ -51,14 +51,14 @@ AreCalled db held = All (IsCalled db held) held
 
 -- ---- the tables that are read a row at a time
 
--- the flaw that a table has where a pass found this row
-abbrev pub flaw_in : Table → Option ℤ → Option Flaw
-flaw_in table None = None
-flaw_in table (Some row) = Some (record { table = table; row = Some row })
+-- the flaw of the table that a query checks, where a pass found this row
+abbrev pub flaw_in : Query → Option ℤ → Option Flaw
+flaw_in query None = None
+flaw_in query (Some row) = Some (record { table = table_of query; row = Some row })
 
 -- whether it is whole
-abbrev pub IsTableChecked : Meta → List Holder → Table → Database → Option Flaw → Type 0
-IsTableChecked meta held table db found = Told (IsWholeTable meta held db table) found
+abbrev pub IsTableChecked : Meta → List Holder → Query → Database → Option Flaw → Type 0
+IsTableChecked meta held query db found = Told (IsWholeTable meta held db query) found
 
 -- whether all that are passed are
 abbrev pub AreTablesChecked : Meta → List Holder → Database → Option Flaw → Type 0

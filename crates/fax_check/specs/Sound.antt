@@ -14,7 +14,7 @@ use Rattle.fax_tables.specs.declared.meta.Meta.{Meta}
 abbrev pub IsSound : Database → Type 0
 IsSound db = (m : Queue) × (k : Ledger) × TablesMean db m k × Sound m
 
--- the eight tables, which obey their rules, each with its rows by rowid
+-- the nine tables, which obey their rules, each with its rows by rowid
 pub record IsStored (db : Database) : Type 0 where
   pub schema_is : db.schema ≡ our_tables
   pub sound : IsDatabase db

@@ -1,23 +1,25 @@
--- What each row of the eight tables has to be, one by one, so that they are those of a sound queue, and what it shows.
-use Rattle.std.specs.Prelude.{◌≡◌, ◌⊎◌, ⊤, ℕ, ◌<◌, ◌≤◌, ◌^◌, ◌==◌, ◌&&◌, Bool, List, [], ◌∷◌, All, Some, None, codes, map, filter, length, drop, IsTrue, if◌then◌else◌}
+-- What each row of the nine tables has to be, one by one, so that they are those of a sound queue, and what it shows.
+use Rattle.std.specs.Prelude.{◌≡◌, ◌⊎◌, ℕ, ℤ, ◌<◌, ◌≤◌, ◌^◌, ◌==◌, ◌&&◌, Bool, List, [], ◌∷◌, All, Some, None, codes, map, filter, length, drop, IsTrue, if◌then◌else◌}
 use Rattle.std.specs.List.{list_any}
 use Rattle.std.specs.List.Sorted.{IsPermutation}
 use Rattle.std.specs.Str.{bytes_eq}
 use Rattle.sqlite.specs.Effect.{Database}
-use Rattle.sqlite.specs.Order.{Row}
-use Rattle.sqlite.specs.declared.types.Value.TheVariants.{Null, Text}
+use Rattle.sqlite.specs.Order.{Row, column}
+use Rattle.sqlite.specs.declared.types.Value.TheVariants.{Int, Null, Text}
 use Rattle.sqlite_rules.specs.Lists.{Has}
 use Rattle.fax_core.specs.Fits.{fits, is_granted}
 use Rattle.fax_core.specs.Job.{job_of}
 use Rattle.fax_core.specs.Queue.{Entry, Queue}
 use Rattle.fax_core.specs.declared.grants.Grant.{Grant}
+use Rattle.fax_value.specs.Limits.{last_moment}
 use Rattle.fax_value.specs.Name.{IsName}
 use Rattle.fax_job.specs.declared.job.JobFields.{JobFields}
+use Rattle.fax_check.specs.declared.tables.Query.{Query}
+use Rattle.fax_check.specs.declared.tables.Query.TheVariants.{Calls, Down, Floors, Grants, Jobs, Replies, Timed, Times}
 use Rattle.fax_check.specs.declared.tables.Table.{Table}
-use Rattle.fax_check.specs.declared.tables.Table.TheVariants.{Calls, Down, Floors, Grants, Holds, Jobs, Meta as TheMeta, Replies}
-use Rattle.fax_check.specs.declared.tables.TheConstants.{PASSED, SELECT_ALL_CALLS, SELECT_ALL_DOWN, SELECT_ALL_FLOORS, SELECT_ALL_GRANTS, SELECT_ALL_HOLDS, SELECT_ALL_JOBS, SELECT_ALL_REPLIES}
-use Rattle.fax_schema.specs.declared.statements.TheConstants.{SELECT_META}
-use Rattle.fax_schema.specs.Schema.{calls_tree, down_tree, floors_tree, grants_tree, holds_tree, jobs_tree, meta_tree, replies_tree}
+use Rattle.fax_check.specs.declared.tables.Table.TheVariants as table
+use Rattle.fax_check.specs.declared.tables.TheConstants.{PASSED, SELECT_ALL_CALLS, SELECT_ALL_DOWN, SELECT_ALL_FLOORS, SELECT_ALL_GRANTS, SELECT_ALL_JOBS, SELECT_ALL_REPLIES, SELECT_ALL_TIMED, SELECT_ALL_TIMES}
+use Rattle.fax_schema.specs.Schema.{calls_tree, down_tree, floors_tree, grants_tree, holds_tree, jobs_tree, meta_tree, replies_tree, times_tree}
 use Rattle.fax_tables.specs.Grant.{grant_shown}
 use Rattle.fax_tables.specs.Job.{IsLawfulJob, job_shown}
 use Rattle.fax_tables.specs.Meta.{with_meta}
@@ -37,7 +39,7 @@ dialing dial held = length (filter (λ h. bytes_eq h.dial dial) held)
 
 -- the row of meta that has these
 abbrev pub numbers_row : Meta → Row
-numbers_row meta = number 1 ∷ Null ∷ number meta.clock ∷ number meta.next_job ∷ number meta.next_grant ∷ number 2 ∷ []
+numbers_row meta = number 1 ∷ Null ∷ number meta.clock ∷ number meta.next_job ∷ number meta.next_grant ∷ number 3 ∷ []
 
 -- one of them holds the grant, by its modem and for its job
 abbrev pub IsHeld : List Holder → Grant → Type 0
@@ -68,6 +70,23 @@ pub record IsGrantRow (meta : Meta) (held : List Holder) (row : Row) : Type 0 wh
   pub lawful : IsLawfulGrant grant
   pub before : grant.number < meta.next_grant
   pub is_held : IsTrue grant.is_open → IsHeld held grant
+
+-- both are moments, of a job that is there: where it isn't over, the end is 0
+pub record IsTimesRow (db : Database) (row : Row) : Type 0 where
+  pub submitted : ℕ
+  pub ended : ℕ
+  pub is : row ≡ column row 0 ∷ Null ∷ number submitted ∷ number ended ∷ []
+  pub moments : (submitted ≤ last_moment) × (ended ≤ last_moment)
+  pub job : Row
+  pub has_job : Has (db.trees jobs_tree) job
+  pub its : column job 0 ≡ column row 0
+  pub phase : ℕ
+  pub in_phase : column job 18 ≡ number phase
+  pub not_over : phase < 3 → ended ≡ 0
+
+-- a job whose times are there
+abbrev pub IsTimed : Database → Row → Type 0
+IsTimed db row = (times : Row) × Has (db.trees times_tree) times × (column times 0 ≡ column row 0)
 
 -- the holder's grant is there, open, and its own; the job is there, dials its number, and fits the grant
 pub record IsRightHolder (db : Database) (h : Holder) : Type 0 where
@@ -145,6 +164,24 @@ HasRequestNumber row at = (number : ℕ) × HasNumber row at number × (1 ≤ nu
 abbrev pub HasStatus : Row → ℕ → Type 0
 HasStatus row at = (status : ℕ) × HasNumber row at status × IsKeptStatus status
 
+-- a moment
+abbrev pub HasMoment : Row → ℕ → Type 0
+HasMoment row at = (moment : ℕ) × HasNumber row at moment × (moment ≤ last_moment)
+
+abbrev pub HasInteger : Row → ℕ → Type 0
+HasInteger row at = (n : ℤ) × HasValue row at (Int n)
+
+-- the moment of an end and the phase of its job: where that isn't over, the end is 0
+pub record ShowsEnd (row : Row) : Type 0 where
+  pub ended : HasMoment row 2
+  pub phase : ℕ
+  pub in_phase : HasNumber row 3 phase
+  pub not_over : phase < 3 → HasNumber row 2 0
+
+pub record ShowsTimes (row : Row) : Type 0 where
+  pub submitted : HasMoment row 1
+  pub ended : ShowsEnd row
+
 pub record ShowsReply (row : Row) : Type 0 where
   pub client : ShowsName row 0
   pub number : HasRequestNumber row 1
@@ -161,51 +198,63 @@ ShowsCall held row = (h : Holder) × Has held h × HasValue row 0 (Text h.dial) 
 
 -- the name of a table
 abbrev pub table_name : Table → List ℕ
-table_name Jobs = codes "jobs"
-table_name Grants = codes "grants"
-table_name Holds = codes "holds"
-table_name Down = codes "down"
-table_name Replies = codes "replies"
-table_name Floors = codes "floors"
-table_name Calls = codes "calls"
-table_name TheMeta = codes "meta"
+table_name table.Jobs = codes "jobs"
+table_name table.Grants = codes "grants"
+table_name table.Times = codes "times"
+table_name table.Holds = codes "holds"
+table_name table.Down = codes "down"
+table_name table.Replies = codes "replies"
+table_name table.Floors = codes "floors"
+table_name table.Calls = codes "calls"
+table_name table.Meta = codes "meta"
 
--- the query for all rows of a table
-abbrev pub text_of : Table → List ℕ
+-- the table that a query checks
+abbrev pub table_of : Query → Table
+table_of Jobs = table.Jobs
+table_of Grants = table.Grants
+table_of Times = table.Times
+table_of Timed = table.Times
+table_of Down = table.Down
+table_of Replies = table.Replies
+table_of Floors = table.Floors
+table_of Calls = table.Calls
+
+-- the text of a query
+abbrev pub text_of : Query → List ℕ
 text_of Jobs = SELECT_ALL_JOBS.now
 text_of Grants = SELECT_ALL_GRANTS.now
-text_of Holds = SELECT_ALL_HOLDS.now
+text_of Times = SELECT_ALL_TIMES.now
+text_of Timed = SELECT_ALL_TIMED.now
 text_of Down = SELECT_ALL_DOWN.now
 text_of Replies = SELECT_ALL_REPLIES.now
 text_of Floors = SELECT_ALL_FLOORS.now
 text_of Calls = SELECT_ALL_CALLS.now
-text_of TheMeta = SELECT_META.now
 
 module _ (meta : Meta) (held : List Holder) where
-  -- what a row of the table has to show; the rows of meta and of holds are read before
-  abbrev pub Shows : Table → Row → Type 0
+  -- what a row of the query has to show
+  abbrev pub Shows : Query → Row → Type 0
   Shows Jobs row = ShowsJob meta held row
   Shows Grants row = ShowsGrant meta held row
+  Shows Times row = ShowsTimes row
+  Shows Timed row = HasInteger row 1
   Shows Down row = ShowsName row 0
   Shows Replies row = ShowsReply row
   Shows Floors row = ShowsFloor row
   Shows Calls row = ShowsCall held row
-  Shows Holds row = ⊤
-  Shows TheMeta row = ⊤
 
-  -- each row is as it has to be
-  abbrev pub IsWholeTable : Database → Table → Type 0
+  -- so each row of its table is as it has to be
+  abbrev pub IsWholeTable : Database → Query → Type 0
   IsWholeTable db Jobs = Each db jobs_tree (IsJobRow meta held)
   IsWholeTable db Grants = Each db grants_tree (IsGrantRow meta held)
+  IsWholeTable db Times = Each db times_tree (IsTimesRow db)
+  IsWholeTable db Timed = Each db jobs_tree (IsTimed db)
   IsWholeTable db Down = Each db down_tree IsDownRow
   IsWholeTable db Replies = Each db replies_tree IsReplyRow
   IsWholeTable db Floors = Each db floors_tree IsFloorRow
   IsWholeTable db Calls = Each db calls_tree (IsCallRow held)
-  IsWholeTable db Holds = ⊤
-  IsWholeTable db TheMeta = ⊤
 
 -- those whose rows are read one at a time
-abbrev pub passed : List Table
+abbrev pub passed : List Query
 passed = PASSED
 
 -- ---- all of them

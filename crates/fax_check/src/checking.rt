@@ -13,7 +13,7 @@ use crate::holders::{Holder, Holders, read_holders};
 use crate::pass::pass;
 use crate::reading::{known, show};
 use crate::rows::{dialing, has_count};
-use crate::tables::{Flaw, PASSED, Table};
+use crate::tables::{Flaw, PASSED, Query, Table};
 use fax_schema::statements::{SELECT_META, SELECT_OPEN, SELECT_VERSION};
 use fax_tables::{Meta, StoreFault, is_version};
 use sqlite::{Alter, Connection, Row, params};
@@ -50,13 +50,13 @@ fn numbers<S: Alter>(conn: &mut Connection<S>) -> Result<Option<Meta>, StoreFaul
     read_numbers(conn)
 }
 
-/// Whether meta has one row, of the second version.
+/// Whether meta has one row, of the third version.
 fn has_version<S: Alter>(conn: &mut Connection<S>) -> Result<bool, StoreFault>
     ensures { Tells (state S.Store conn.old) (state S.Store conn.new) result (λ db right. Decides right
         (IsOfVersion db)) }
 {
     let rows = show(conn, SELECT_VERSION, &[])?;
-    Ok(is_version(rows.as_slice(), 2))
+    Ok(is_version(rows.as_slice(), 3))
 }
 
 /// The clock and the next numbers of the row of meta that is numbered 1.
@@ -120,36 +120,36 @@ fn check_tables<S: Alter>(
 ) -> Result<Option<Flaw>, StoreFault>
     ensures { Looks S.Store conn.old conn.new result (λ db found. AreTablesChecked meta.now held.now db found) }
 {
-    for table in &PASSED {
-        if let Some(flaw) = check_table(alloc, conn, *table, meta, held)? {
+    for query in &PASSED {
+        if let Some(flaw) = check_table(alloc, conn, *query, meta, held)? {
             return Ok(Some(flaw));
         }
     }
     Ok(None)
 }
 
-/// Checks a table whose rows are read one at a time.
+/// Checks the rows of a query.
 fn check_table<S: Alter>(
     alloc: Global,
     conn: &mut Connection<S>,
-    table: Table,
+    query: Query,
     meta: &Meta,
     held: &[Holder],
 ) -> Result<Option<Flaw>, StoreFault>
     ensures { Tells (state S.Store conn.old) (state S.Store conn.new) result (λ db found. IsTableChecked meta.now held.now
-        table db found) }
+        query db found) }
 {
-    let found = pass(alloc, conn, table, meta, held)?;
-    Ok(flaw_in(table, found))
+    let found = pass(alloc, conn, query, meta, held)?;
+    Ok(flaw_in(query, found))
 }
 
-/// The flaw of a table in which a pass found this row.
-fn flaw_in(table: Table, found: Option<i64>) -> Option<Flaw>
-    ensures { result ≡ flaw_in table found }
+/// The flaw of the table that a query checks, where a pass found this row.
+fn flaw_in(query: Query, found: Option<i64>) -> Option<Flaw>
+    ensures { result ≡ flaw_in query found }
 {
     match found {
         Some(row) => Some(Flaw {
-            table,
+            table: query.table(),
             row: Some(row),
         }),
         None => None,

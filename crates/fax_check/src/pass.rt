@@ -1,4 +1,4 @@
-//! A pass over the rows of a table, one at a time.
+//! A pass over the rows of a query, one at a time.
 
 ghost use Rattle.std.specs.Prelude.{◌≡◌, ℕ, List, [], IfOk};
 ghost use Rattle.sqlite.specs.Given.{HasGiven};
@@ -11,7 +11,7 @@ ghost use Rattle.fax_check.specs.Whole.{Shows, text_of};
 
 use crate::holders::Holder;
 use crate::rows::shows;
-use crate::tables::Table;
+use crate::tables::Query;
 use fax_tables::{Meta, StoreFault};
 use sqlite::types::ValueRef;
 use sqlite::{Alter, Connection, Row, Rows};
@@ -28,26 +28,26 @@ enum Step {
     Wrong(i64),
 }
 
-/// Reads each row of a table once, and returns the rowid of the first that isn't as it has to be.
+/// Reads each row of a query once, and returns the rowid of the first that isn't as it has to be.
 pub(crate) fn pass<S: Alter>(
     alloc: Global,
     conn: &mut Connection<S>,
-    table: Table,
+    query: Query,
     meta: &Meta,
     held: &[Holder],
 ) -> Result<Option<i64>, StoreFault>
     ensures { Tells (state S.Store conn.old) (state S.Store conn.new) result (λ db found. (rows : List Values)
-        × AreRead S.Store (text_of table) db conn.new rows × IsPassed (Shows meta.now held.now table) rows found) }
+        × AreRead S.Store (text_of query) db conn.new rows × IsPassed (Shows meta.now held.now query) rows found) }
 {
-    let mut rows = conn.query(table.all_rows(), &[])?;
-    count(alloc, &mut rows, table, meta, held)
+    let mut rows = conn.query(query.text(), &[])?;
+    count(alloc, &mut rows, query, meta, held)
 }
 
 /// Reads the rows that are left of a query.
 fn count<S: Alter>(
     alloc: Global,
     rows: &mut Rows<'_, S>,
-    table: Table,
+    query: Query,
     meta: &Meta,
     held: &[Holder],
 ) -> Result<Option<i64>, StoreFault>
@@ -55,12 +55,12 @@ fn count<S: Alter>(
     ensures leaves { GoesOn S.Store rows.old.conn.now rows.new.conn.now result }
     ensures counted { (sql : List ℕ) → HasGiven S.Store sql [] rows.old.conn.now [] → HasCleanDisk
         (state S.Store rows.new.conn.now) → IfOk result (λ found. (given : List Values) × AreRead S.Store sql
-        (state S.Store rows.new.conn.now).now rows.new.conn.now given × IsPassed (Shows meta.now held.now table)
+        (state S.Store rows.new.conn.now).now rows.new.conn.now given × IsPassed (Shows meta.now held.now query)
         given found) }
 {
     let mut flaw = None;
     for _ in 0..u64::MAX {
-        match next_step(alloc, rows, table, meta, held)? {
+        match next_step(alloc, rows, query, meta, held)? {
             Step::End => return Ok(flaw),
             Step::Right => {}
             Step::Wrong(row) => flaw = flaw.or(Some(row)),
@@ -73,28 +73,28 @@ fn count<S: Alter>(
 fn next_step<S: Alter>(
     alloc: Global,
     rows: &mut Rows<'_, S>,
-    table: Table,
+    query: Query,
     meta: &Meta,
     held: &[Holder],
 ) -> Result<Step, StoreFault>
     ensures same_reference { rows.new.conn.ghost_name ≡ rows.old.conn.ghost_name }
     ensures leaves { GoesOn S.Store rows.old.conn.now rows.new.conn.now result }
     ensures steps { (sql : List ℕ) (given : List Values) → HasGiven S.Store sql [] rows.old.conn.now given
-        → HasCleanDisk (state S.Store rows.new.conn.now) → IfOk result (IsStep S.Store (Shows meta.now held.now table) sql
+        → HasCleanDisk (state S.Store rows.new.conn.now) → IfOk result (IsStep S.Store (Shows meta.now held.now query) sql
         given rows.old.conn.now rows.new.conn.now) }
 {
     rows.advance()?;
     match rows.get() {
         None => Ok(Step::End),
-        Some(row) if shows(alloc, table, meta, held, row)? => Ok(Step::Right),
-        Some(row) => Ok(Step::Wrong(rowid_in(table, row))),
+        Some(row) if shows(alloc, query, meta, held, row)? => Ok(Step::Right),
+        Some(row) => Ok(Step::Wrong(rowid_in(query, row))),
     }
 }
 
 /// The rowid that a row is shown with.
-fn rowid_in(table: Table, row: &Row) -> i64 {
-    match table {
-        Table::Jobs | Table::Grants => number_in(row, 0),
+fn rowid_in(query: Query, row: &Row) -> i64 {
+    match query {
+        Query::Jobs | Query::Grants | Query::Times | Query::Timed => number_in(row, 0),
         _ => number_in(row, row.column_count().saturating_sub(1)),
     }
 }

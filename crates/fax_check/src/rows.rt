@@ -3,13 +3,14 @@
 ghost use Rattle.std.specs.Prelude.{◌≡◌, IfErr, IfOk};
 ghost use Rattle.std.specs.Bool.{Decides};
 ghost use Rattle.sqlite.specs.declared.types.Value.TheVariants.{Int, Text};
-ghost use Rattle.fax_check.specs.Whole.{HasRequestNumber, HasStatus, Shows, ShowsCall, ShowsFloor, ShowsGrant, ShowsJob, ShowsName, ShowsReply, dialing, has_holder, holds, is_held, stands};
+ghost use Rattle.fax_check.specs.Whole.{HasInteger, HasMoment, HasRequestNumber, HasStatus, Shows, ShowsCall, ShowsEnd, ShowsFloor, ShowsGrant, ShowsJob, ShowsName, ShowsReply, ShowsTimes, dialing, has_holder, holds, is_held, stands};
 ghost use Rattle.fax_tables.specs.Row.{HasNumber, HasValue};
 
 use crate::holders::Holder;
 use crate::reading::known;
-use crate::tables::Table;
+use crate::tables::Query;
 use fax_core::{Grant, fits};
+use fax_job::limits::LAST_MOMENT;
 use fax_job::{Job, Phase, is_name};
 use fax_tables::{Meta, StoreFault, grant_in, job_in};
 use sqlite::Row;
@@ -19,31 +20,35 @@ use std::alloc::Global;
 /// One above the greatest request number.
 const PAST_NUMBERS: i64 = 1_000_000_000_000_000_000;
 
+/// The least phase of a job that is over.
+const FIRST_OVER: i64 = 3;
+
 /// How many columns a job is shown in.
 const JOB_WIDTH: usize = 20;
 
 /// How many columns a grant is shown in.
 const GRANT_WIDTH: usize = 8;
 
-/// Whether a row of a table shows what it has to.
+/// Whether a row of a query shows what it has to.
 pub(crate) fn shows(
     alloc: Global,
-    table: Table,
+    query: Query,
     meta: &Meta,
     held: &[Holder],
     row: &Row,
 ) -> Result<bool, StoreFault>
-    ensures right { IfOk result (λ right. Decides right (Shows meta.now held.now table row.now)) }
+    ensures right { IfOk result (λ right. Decides right (Shows meta.now held.now query row.now)) }
     ensures cause { IfErr result (λ fault. fault ≡ StoreFault.Unavailable) }
 {
-    match table {
-        Table::Jobs => shows_job(alloc, meta, held, row),
-        Table::Grants => shows_grant(alloc, meta, held, row),
-        Table::Down => Ok(has_name(row, 0)),
-        Table::Replies => Ok(shows_reply(row)),
-        Table::Floors => Ok(shows_floor(row)),
-        Table::Calls => Ok(shows_call(held, row)),
-        Table::Holds | Table::Meta => Ok(true),
+    match query {
+        Query::Jobs => shows_job(alloc, meta, held, row),
+        Query::Grants => shows_grant(alloc, meta, held, row),
+        Query::Times => Ok(shows_times(row)),
+        Query::Timed => Ok(has_integer(row, 1)),
+        Query::Down => Ok(has_name(row, 0)),
+        Query::Replies => Ok(shows_reply(row)),
+        Query::Floors => Ok(shows_floor(row)),
+        Query::Calls => Ok(shows_call(held, row)),
     }
 }
 
@@ -115,6 +120,23 @@ fn holds(holder: &Holder, grant: &Grant) -> bool
         && holder.grant == grant.number
 }
 
+fn shows_times(row: &Row) -> bool
+    ensures { Decides result (ShowsTimes row.now) }
+{
+    has_moment(row, 1) && shows_end(row)
+}
+
+/// Whether the row has the moment of an end, which is 0 where the job isn't over, and the phase of the job.
+fn shows_end(row: &Row) -> bool
+    ensures { Decides result (ShowsEnd row.now) }
+{
+    match row.get_ref(3) {
+        Ok(ValueRef::Int(phase)) if phase >= FIRST_OVER => has_moment(row, 2),
+        Ok(ValueRef::Int(phase)) => phase >= 0 && has_number(row, 2, 0),
+        _ => false,
+    }
+}
+
 fn shows_reply(row: &Row) -> bool
     ensures { Decides result (ShowsReply row.now) }
 {
@@ -154,6 +176,26 @@ fn has_name(row: &Row, at: usize) -> bool
 {
     match row.get_ref(at) {
         Ok(ValueRef::Text(text)) => is_name(text),
+        _ => false,
+    }
+}
+
+/// Whether the row has a moment in a column.
+fn has_moment(row: &Row, at: usize) -> bool
+    ensures { Decides result (HasMoment row.now at) }
+{
+    match row.get_ref(at) {
+        Ok(ValueRef::Int(moment)) => 0 <= moment && moment <= i64::from(LAST_MOMENT),
+        _ => false,
+    }
+}
+
+/// Whether the row has an integer in a column.
+fn has_integer(row: &Row, at: usize) -> bool
+    ensures { Decides result (HasInteger row.now at) }
+{
+    match row.get_ref(at) {
+        Ok(ValueRef::Int(_)) => true,
         _ => false,
     }
 }

@@ -1,9 +1,7 @@
-//! The tables, the queries for all rows of each, and the first row of one that isn't as it has to be.
+//! The tables, the queries whose rows are checked, and the first row of a table that isn't as it has to be.
 
 ghost use Rattle.std.specs.Prelude.{◌≡◌};
-ghost use Rattle.fax_check.specs.Whole.{table_name, text_of};
-
-use fax_schema::statements::SELECT_META;
+ghost use Rattle.fax_check.specs.Whole.{table_name, table_of, text_of};
 
 // ---- the queries for all rows of a table: the last column is the rowid, where the first isn't
 
@@ -13,6 +11,14 @@ const SELECT_ALL_JOBS: &str = "SELECT job, dial, modem, jobtag, status, tts, kil
 
 const SELECT_ALL_GRANTS: &str =
     "SELECT id, job, modem, first_page, last_page, call, pages, shut FROM grants";
+
+/// The times, each with the phase of its job, which is NULL where there is no such job.
+const SELECT_ALL_TIMES: &str = "SELECT times.job, times.submitted, times.ended, jobs.phase \
+    FROM times LEFT JOIN jobs ON jobs.job = times.job";
+
+/// The jobs, each with the number of its times, which is NULL where there are none.
+const SELECT_ALL_TIMED: &str =
+    "SELECT jobs.job, times.job FROM jobs LEFT JOIN times ON times.job = jobs.job";
 
 pub(crate) const SELECT_ALL_HOLDS: &str = "SELECT modem, job, id, rowid FROM holds";
 
@@ -29,6 +35,7 @@ const SELECT_ALL_CALLS: &str = "SELECT dial, open, rowid FROM calls";
 pub enum Table {
     Jobs,
     Grants,
+    Times,
     Holds,
     Down,
     Replies,
@@ -37,14 +44,31 @@ pub enum Table {
     Meta,
 }
 
-/// The tables whose rows are read one at a time, in this order.
-pub(crate) static PASSED: [Table; 6] = [
-    Table::Grants,
-    Table::Jobs,
-    Table::Down,
-    Table::Replies,
-    Table::Floors,
-    Table::Calls,
+/// A query whose rows are read one at a time.
+#[derive(Clone, Copy)]
+pub(crate) enum Query {
+    Jobs,
+    Grants,
+    /// The times, with the phases of their jobs.
+    Times,
+    /// The jobs, with the numbers of their times.
+    Timed,
+    Down,
+    Replies,
+    Floors,
+    Calls,
+}
+
+/// The queries, in the order in which they are run.
+pub(crate) static PASSED: [Query; 8] = [
+    Query::Grants,
+    Query::Jobs,
+    Query::Times,
+    Query::Timed,
+    Query::Down,
+    Query::Replies,
+    Query::Floors,
+    Query::Calls,
 ];
 
 /// A row that isn't as it has to be, or that is missing.
@@ -52,7 +76,8 @@ pub(crate) static PASSED: [Table; 6] = [
 pub struct Flaw {
     /// Its table.
     pub table: Table,
-    /// Its rowid: the number of a job or a grant, 1 in meta; none where a row of `calls` is missing.
+    /// Its rowid: the number of a job or a grant, 1 in meta; in `times` that of a row that is missing, too. None where a
+    /// row of `calls` is missing.
     pub row: Option<i64>,
 }
 
@@ -64,6 +89,7 @@ impl Table {
         match self {
             Table::Jobs => "jobs",
             Table::Grants => "grants",
+            Table::Times => "times",
             Table::Holds => "holds",
             Table::Down => "down",
             Table::Replies => "replies",
@@ -72,20 +98,37 @@ impl Table {
             Table::Meta => "meta",
         }
     }
+}
 
-    /// The query for all its rows.
-    pub(crate) fn all_rows(self) -> &'static str
+impl Query {
+    /// The table that it checks.
+    pub(crate) fn table(self) -> Table
+        ensures { result ≡ table_of self }
+    {
+        match self {
+            Query::Jobs => Table::Jobs,
+            Query::Grants => Table::Grants,
+            Query::Times | Query::Timed => Table::Times,
+            Query::Down => Table::Down,
+            Query::Replies => Table::Replies,
+            Query::Floors => Table::Floors,
+            Query::Calls => Table::Calls,
+        }
+    }
+
+    /// Its text.
+    pub(crate) fn text(self) -> &'static str
         ensures { result.now ≡ text_of self }
     {
         match self {
-            Table::Jobs => SELECT_ALL_JOBS,
-            Table::Grants => SELECT_ALL_GRANTS,
-            Table::Holds => SELECT_ALL_HOLDS,
-            Table::Down => SELECT_ALL_DOWN,
-            Table::Replies => SELECT_ALL_REPLIES,
-            Table::Floors => SELECT_ALL_FLOORS,
-            Table::Calls => SELECT_ALL_CALLS,
-            Table::Meta => SELECT_META,
+            Query::Jobs => SELECT_ALL_JOBS,
+            Query::Grants => SELECT_ALL_GRANTS,
+            Query::Times => SELECT_ALL_TIMES,
+            Query::Timed => SELECT_ALL_TIMED,
+            Query::Down => SELECT_ALL_DOWN,
+            Query::Replies => SELECT_ALL_REPLIES,
+            Query::Floors => SELECT_ALL_FLOORS,
+            Query::Calls => SELECT_ALL_CALLS,
         }
     }
 }

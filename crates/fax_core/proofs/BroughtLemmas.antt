@@ -19,6 +19,7 @@ use Rattle.fax_core.proofs.ImportLemmas.{IsBrought, bring_counts}
 use Rattle.fax_core.proofs.PageLemmas.{KeepsSent, through, aged_keeps, run_keeps, sent_before, step_gives}
 use Rattle.fax_core.proofs.PlaceLemmas.{absent, comes}
 use Rattle.fax_core.proofs.StepLemmas.{taken_same, aged_sound, step_sound, run_sound}
+use Rattle.fax_core.proofs.TimesLemmas.{by_stamp}
 
 -- the job that came in stands under the number that is told
 pub record Came (i : Import) (n : Queue) (number : ℕ) : Type 0 where
@@ -52,7 +53,9 @@ came_by s m t rule i (Err x) n number state h is e = cc
 pub came : (s : Settings) (m n : Queue) (t : ℕ) (i : Import) (number state : ℕ) → Sound m → step s m t (Bring i) ≡ Taken n (Brought number state) → Came i n number
 came s m n t i number state h e =
     let d = bring i (s.rule i.order.dial) m.next_job s.max_jobs t in
-    came_by s (aged t m) t (s.rule i.order.dial) i d n number state (aged_sound t m h) (λ j is. bring_counts i (s.rule i.order.dial) m.next_job s.max_jobs t j is) e
+    by_stamp (λ n. Came i n number) t (aged t m) (brought_in s (aged t m) t (s.rule i.order.dial) d) n (Brought number state) e (λ k it.
+    let came = came_by s (aged t m) t (s.rule i.order.dial) i d k number state (aged_sound t m h) (λ j is. bring_counts i (s.rule i.order.dial) m.next_job s.max_jobs t j is) it in
+    record { job = came.job; there = came.there; npages = came.npages })
 
 -- a page that came in as sent lies before each grant that its job gets
 pub not_granted : (s : Settings) (m n : Queue) (t : ℕ) (i : Import) (job state : ℕ) (rs : List Request) (u : ℕ) (modem : List ℕ) (l : Queue) (h : Handed)

@@ -18,6 +18,7 @@ use Rattle.fax_core.specs.Queue.{Queue, job_numbered, grant_numbered}
 use Rattle.fax_core.specs.Reply.{Reply, Marked, NoKeys, Step, Taken, Refused}
 use Rattle.fax_core.specs.Run.{Request, left_by, decided, queue_after}
 use Rattle.fax_core.specs.Settings.{Rule, Settings, has_modem}
+use Rattle.fax_core.proofs.TimesLemmas.{by_stamp}
 
 -- the clock that a step leaves
 abbrev clock_left : Queue → Step → ℕ
@@ -98,7 +99,8 @@ act_clock s m t (GiveUp floor) = refl
 
 -- a step that is taken sets the clock to its moment
 pub step_clock : (s : Settings) (m n : Queue) (t : ℕ) (ask : Ask) (r : Reply) → step s m t ask ≡ Taken n r → n.clock ≡ t
-step_clock s m n t ask r e = sym (ap (clock_left (aged t m)) e) ∙ act_clock s (aged t m) t ask
+step_clock s m n t ask r e =
+    by_stamp (λ n. n.clock ≡ t) t (aged t m) (act s (aged t m) t ask) n r e (λ k is. sym (ap (clock_left (aged t m)) is) ∙ act_clock s (aged t m) t ask)
 
 -- a step leaves the clock no earlier
 left_clock : (m : Queue) (t : ℕ) (x : Step) → m.clock ≤ t → ((n : Queue) (r : Reply) → x ≡ Taken n r → n.clock ≡ t) → m.clock ≤ clock_left m x

@@ -28,6 +28,7 @@ use Rattle.fax_core.specs.Decisions.{JobAndGrant, is_over, new_job, submit, susp
 use Rattle.fax_core.specs.Job.{Job}
 use Rattle.fax_core.specs.Settings.{Rule}
 use Rattle.fax_core.specs.Sound.{IsCounted, HasCallLeft, CanGoOn, FitsPhase, FitsFree, FitsGrant}
+use Rattle.fax_core.specs.Times.{has_ended}
 use Rattle.fax_core.proofs.KeepLemmas.{Reports}
 
 -- ---- what isn't refused
@@ -82,6 +83,11 @@ aged_number t j = cond_both (expires j.phase && is_past j.killtime t) (record j 
 pub aged_sent : (t : ℕ) (j : Job) → (aged_job t j).sent ≡ j.sent
 aged_sent t j = cond_both (expires j.phase && is_past j.killtime t) (record j { phase = phase.Failed; status = kill_time_expired }) j (λ (k : Job). k.sent ≡ j.sent) (λ e. refl) (λ e. refl)
 
+-- a job that is over stays so
+pub aged_over : (t : ℕ) (j : Job) → has_ended (aged_job t j).phase ≡ false → has_ended j.phase ≡ false
+aged_over t j =
+    cond_both (expires j.phase && is_past j.killtime t) (record j { phase = phase.Failed; status = kill_time_expired }) j (λ (k : Job). has_ended k.phase ≡ false → has_ended j.phase ≡ false) (λ e q. cc) (λ e q. q)
+
 -- an aged job fits without a grant, where it did
 pub aged_free : (t : ℕ) (j : Job) → FitsFree j → FitsFree (aged_job t j)
 aged_free t j h =
@@ -102,18 +108,20 @@ pub record Keeps (j k : Job) : Type 0 where
   pub sent : k.sent ≡ j.sent
   pub free : FitsFree j → FitsFree k
   pub held : (g : Grant) → FitsGrant j g → FitsGrant k g
+  pub over : has_ended k.phase ≡ false → has_ended j.phase ≡ false
 
 -- a job keeps what it has
 keeps_itself : (j : Job) → Keeps j j
-keeps_itself j = record { number = refl; sent = refl; free = λ h. h; held = λ g h. h }
+keeps_itself j = record { number = refl; sent = refl; free = λ h. h; held = λ g h. h; over = λ e. e }
 
 -- a job that isn't granted goes to another phase
-to_phase : (j : Job) (p : Phase) (text : List ℕ) → j.phase ≢ phase.Granted → (FitsPhase j.phase j → FitsPhase p (moved j p j.wish j.next text)) → Keeps j (moved j p j.wish j.next text)
-to_phase j p text other fits = record {
+to_phase : (j : Job) (p : Phase) (text : List ℕ) → j.phase ≢ phase.Granted → has_ended j.phase ≡ false → (FitsPhase j.phase j → FitsPhase p (moved j p j.wish j.next text)) → Keeps j (moved j p j.wish j.next text)
+to_phase j p text other goes fits = record {
   number = refl;
   sent = refl;
   free = λ h. record { counted = counted_moved j p j.wish j.next text h.counted; wish = h.wish; phase = fits h.phase };
   held = λ g h. absurd (other h.phase);
+  over = λ q. goes;
 }
 
 -- a granted job gets another wish
@@ -123,6 +131,7 @@ to_wish j w e = record {
   sent = refl;
   free = λ h. absurd (subst (λ (p : Phase). FitsPhase p j) e h.phase);
   held = λ g h. grant_moved j g w j.next j.status h;
+  over = λ q. q;
 }
 
 -- a suspended job keeps its number and pages, and fits
@@ -130,7 +139,7 @@ pub suspended_in : (p : Phase) (w : Wish) (j k : Job) → j.phase ≡ p → susp
 suspended_in phase.Held w j k e h = subst (Keeps j) (ok_same j k h) (keeps_itself j)
 suspended_in phase.Waiting w j k e h =
     subst (Keeps j) (ok_same (record j { phase = phase.Held }) k h)
-    (to_phase j phase.Held j.status (λ q. absurd (cc (e, q))) (λ f. goes_on_moved j phase.Held j.wish j.next j.status (subst (λ (p : Phase). FitsPhase p j) e f)))
+    (to_phase j phase.Held j.status (λ q. absurd (cc (e, q))) (ap has_ended e) (λ f. goes_on_moved j phase.Held j.wish j.next j.status (subst (λ (p : Phase). FitsPhase p j) e f)))
 suspended_in phase.Granted wish.Go j k e h = subst (Keeps j) (ok_same (record j { wish = wish.Hold }) k h) (to_wish j wish.Hold e)
 suspended_in phase.Granted wish.Hold j k e h = subst (Keeps j) (ok_same j k h) (keeps_itself j)
 suspended_in phase.Granted wish.Kill j k e h = cc
@@ -141,7 +150,7 @@ suspended_in phase.Failed w j k e h = cc
 pub resumed_in : (p : Phase) (w : Wish) (j k : Job) → j.phase ≡ p → resume_in p w j ≡ Ok k → Keeps j k
 resumed_in phase.Held w j k e h =
     subst (Keeps j) (ok_same (record j { phase = phase.Waiting }) k h)
-    (to_phase j phase.Waiting j.status (λ q. absurd (cc (e, q))) (λ f. goes_on_moved j phase.Waiting j.wish j.next j.status (subst (λ (p : Phase). FitsPhase p j) e f)))
+    (to_phase j phase.Waiting j.status (λ q. absurd (cc (e, q))) (ap has_ended e) (λ f. goes_on_moved j phase.Waiting j.wish j.next j.status (subst (λ (p : Phase). FitsPhase p j) e f)))
 resumed_in phase.Waiting w j k e h = cc
 resumed_in phase.Granted wish.Go j k e h = cc
 resumed_in phase.Granted wish.Hold j k e h = subst (Keeps j) (ok_same (record j { wish = wish.Go }) k h) (to_wish j wish.Go e)
@@ -151,8 +160,8 @@ resumed_in phase.Failed w j k e h = cc
 
 -- and a killed one
 pub killed_in : (p : Phase) (j k : Job) → j.phase ≡ p → kill_in p j ≡ Ok k → Keeps j k
-killed_in phase.Held j k e h = subst (Keeps j) (ok_same (record j { phase = phase.Failed; status = killed }) k h) (to_phase j phase.Failed killed (λ q. absurd (cc (e, q))) (λ f. tt))
-killed_in phase.Waiting j k e h = subst (Keeps j) (ok_same (record j { phase = phase.Failed; status = killed }) k h) (to_phase j phase.Failed killed (λ q. absurd (cc (e, q))) (λ f. tt))
+killed_in phase.Held j k e h = subst (Keeps j) (ok_same (record j { phase = phase.Failed; status = killed }) k h) (to_phase j phase.Failed killed (λ q. absurd (cc (e, q))) (ap has_ended e) (λ f. tt))
+killed_in phase.Waiting j k e h = subst (Keeps j) (ok_same (record j { phase = phase.Failed; status = killed }) k h) (to_phase j phase.Failed killed (λ q. absurd (cc (e, q))) (ap has_ended e) (λ f. tt))
 killed_in phase.Granted j k e h = subst (Keeps j) (ok_same (record j { wish = wish.Kill }) k h) (to_wish j wish.Kill e)
 killed_in phase.Done j k e h = cc
 killed_in phase.Failed j k e h = cc
@@ -171,6 +180,7 @@ altered_keeps a j t e dials tries = record {
         subst (λ (p : Phase). FitsPhase p (altered a j t)) (sym e) after;
   };
   held = λ g h. absurd (cc (e, h.phase));
+  over = λ q. q;
 }
 
 -- so does a job that was altered
@@ -191,6 +201,33 @@ asked_in ask.Suspend t j k h = suspended_in j.phase j.wish j k refl h
 asked_in ask.Resume t j k h = resumed_in j.phase j.wish j k refl h
 asked_in ask.Kill t j k h = killed_in j.phase j k refl h
 asked_in (ask.Alter changes) t j k h = altered_in j.phase changes j k t refl h
+
+-- a client's request is taken of a job that isn't over
+suspended_goes : (p : Phase) (w : Wish) (j k : Job) → suspend_in p w j ≡ Ok k → has_ended p ≡ false
+suspended_goes phase.Done w j k h = cc
+suspended_goes phase.Failed w j k h = cc
+suspended_goes _ w j k h = refl
+
+resumed_goes : (p : Phase) (w : Wish) (j k : Job) → resume_in p w j ≡ Ok k → has_ended p ≡ false
+resumed_goes phase.Done w j k h = cc
+resumed_goes phase.Failed w j k h = cc
+resumed_goes _ w j k h = refl
+
+killed_goes : (p : Phase) (j k : Job) → kill_in p j ≡ Ok k → has_ended p ≡ false
+killed_goes phase.Done j k h = cc
+killed_goes phase.Failed j k h = cc
+killed_goes _ j k h = refl
+
+altered_goes : (p : Phase) (a : Alter) (j k : Job) (t : ℕ) → alter_in p a j t ≡ Ok k → has_ended p ≡ false
+altered_goes phase.Done a j k t h = cc
+altered_goes phase.Failed a j k t h = cc
+altered_goes _ a j k t h = refl
+
+pub asked_goes : (a : JobAsk) (t : ℕ) (j k : Job) → job_asked a t j ≡ Ok k → has_ended j.phase ≡ false
+asked_goes ask.Suspend t j k h = suspended_goes j.phase j.wish j k h
+asked_goes ask.Resume t j k h = resumed_goes j.phase j.wish j k h
+asked_goes ask.Kill t j k h = killed_goes j.phase j k h
+asked_goes (ask.Alter changes) t j k h = altered_goes j.phase changes j k t h
 
 -- ---- submission
 

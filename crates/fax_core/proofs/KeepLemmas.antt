@@ -8,8 +8,37 @@ use Rattle.fax_core.specs.Decisions.{JobAndGrant}
 use Rattle.fax_core.specs.Job.{Job}
 use Rattle.fax_core.specs.Machine.{with_job, with_both, with_new_job, with_new_grant}
 use Rattle.fax_core.specs.Queue.{Queue, job_numbered, grant_numbered}
-use Rattle.fax_core.specs.Sound.{FitsFree, FitsGrant, IsJob, IsOpen, Sound}
+use Rattle.fax_core.specs.Sound.{AscendBetween, Fits, FitsFree, FitsGrant, IsJob, IsOpen, Sound}
+use Rattle.fax_core.specs.Stamp.{stamp}
+use Rattle.fax_core.specs.Times.{has_ended}
+use Rattle.fax_core.proofs.TimesLemmas.{Follows, all_found, follows_mapped, follows_more, follows_same, stamp_timed}
 use Rattle.fax_core.proofs.PlaceLemmas.{find_map, mapped, ascend_few, ascend_mapped, ascend_more, absent, stays, comes, either, in_place, in_place_number, number_found, placed_here, placed_other, placed}
+
+-- what a change keeps besides the times
+pub record Kept (from m : Queue) : Type 0 where
+  pub follows : Follows from.jobs m.jobs
+  pub times : m.times ≡ from.times
+  pub jobs : AscendBetween 0 (map (λ j. j.number) m.jobs) m.next_job
+  pub grants : AscendBetween 0 (map (λ g. g.number) m.grants) m.next_grant
+  pub one_to_a_modem : (a b : ℕ) (g h : Grant) → IsOpen m a g → IsOpen m b h → g.modem ≡ h.modem → a ≡ b
+  pub one_of_a_job : (a b : ℕ) (g h : Grant) → IsOpen m a g → IsOpen m b h → g.job ≡ h.job → a ≡ b
+  pub held : (a : ℕ) (g : Grant) → IsOpen m a g → (j : Job) × IsJob m g.job j × Fits j (Some g)
+  pub free : (n : ℕ) (j : Job) → IsJob m n j → ((a : ℕ) (g : Grant) → IsOpen m a g → g.job ≢ n) → Fits j None
+
+pub kept_of : (m : Queue) → Sound m → Kept m m
+kept_of m h = record { follows = follows_same m.jobs; times = refl; jobs = h.jobs; grants = h.grants; one_to_a_modem = h.one_to_a_modem; one_of_a_job = h.one_of_a_job; held = h.held; free = h.free }
+
+-- with the times of its jobs the queue is sound
+pub stamp_sound : (t : ℕ) (m n : Queue) → Sound m → Kept m n → Sound (stamp t m n)
+stamp_sound t m n old h = record {
+  jobs = h.jobs;
+  grants = h.grants;
+  one_to_a_modem = h.one_to_a_modem;
+  one_of_a_job = h.one_of_a_job;
+  held = h.held;
+  timed = stamp_timed t m n (all_found m old.jobs) (all_found n h.jobs) h.follows h.times old.timed;
+  free = h.free;
+}
 
 abbrev job_number : Job → ℕ
 job_number j = j.number
@@ -51,8 +80,11 @@ looked_up m f same n = find_map (λ j. eqb j.number n) f (λ j. ap (λ (a : ℕ)
 pub keeps_mapped : (m : Queue) (f : Job → Job) (t : ℕ) → ((j : Job) → (f j).number ≡ j.number)
     → ((n : ℕ) (j : Job) → IsJob m n j → FitsFree j → FitsFree (f j))
     → ((n : ℕ) (j : Job) (g : Grant) → IsJob m n j → FitsGrant j g → FitsGrant (f j) g)
-    → Sound m → Sound (record m { jobs = map f m.jobs; clock = t })
-keeps_mapped m f t same free held h = record {
+    → ((n : ℕ) (j : Job) → IsJob m n j → has_ended (f j).phase ≡ false → has_ended j.phase ≡ false)
+    → Sound m → Kept m (record m { jobs = map f m.jobs; clock = t })
+keeps_mapped m f t same free held over h = record {
+  follows = follows_mapped m f same over m.jobs (all_found m h.jobs);
+  times = refl;
   jobs = ascend_mapped job_number f same 0 m.next_job m.jobs h.jobs;
   grants = h.grants;
   one_to_a_modem = h.one_to_a_modem;
@@ -81,12 +113,26 @@ placed_held m n a j k x g e same held is h true t =
     held (subst (λ (y : Job). FitsGrant y g) (same_job m n x j found e) h)
 placed_held m n a j k x g e same held is h false t = h
 
+-- a job that wasn't over isn't, where the one put in place wasn't either
+placed_over : (m : Queue) (n a : ℕ) (j k x : Job) → IsJob m n j → k.number ≡ n → (has_ended k.phase ≡ false → has_ended j.phase ≡ false) → IsJob m a x → (b : Bool) → eqb x.number k.number ≡ b → has_ended (cond b k x).phase ≡ false → has_ended x.phase ≡ false
+placed_over m n a j k x e same over is true t h =
+    let here : a ≡ n = sym (numbered_job m a x is) ∙ eqb-true x.number k.number t ∙ same in
+    let found : IsJob m n x = subst (λ (i : ℕ). IsJob m i x) here is in
+    subst (λ (y : Job). has_ended y.phase ≡ false) (same_job m n j x e found) (over h)
+placed_over m n a j k x e same over is false t h = h
+
+-- jobs follow where one is put in another's place
+follows_placed : (m : Queue) (n : ℕ) (j k : Job) → IsJob m n j → k.number ≡ n → (has_ended k.phase ≡ false → has_ended j.phase ≡ false) → Sound m → Follows m.jobs (with_job k m).jobs
+follows_placed m n j k e same over h =
+    follows_mapped m (in_place job_number k) (in_place_number job_number k) (λ a x is. placed_over m n a j k x e same over is (eqb x.number k.number) refl) m.jobs (all_found m h.jobs)
+
 -- where one job changes in its place and fits still, the queue stays sound
-pub keeps_job : (m : Queue) (n : ℕ) (j k : Job) → IsJob m n j → k.number ≡ n → (FitsFree j → FitsFree k) → ((g : Grant) → FitsGrant j g → FitsGrant k g) → Sound m → Sound (with_job k m)
-keeps_job m n j k e same free held h =
+pub keeps_job : (m : Queue) (n : ℕ) (j k : Job) → IsJob m n j → k.number ≡ n → (FitsFree j → FitsFree k) → ((g : Grant) → FitsGrant j g → FitsGrant k g) → (has_ended k.phase ≡ false → has_ended j.phase ≡ false) → Sound m → Kept m (with_job k m)
+keeps_job m n j k e same free held over h =
     keeps_mapped m (in_place job_number k) m.clock (in_place_number job_number k)
     (λ a x is f. placed_free m n a j k x e same free is f (eqb x.number k.number) refl)
     (λ a x g is f. placed_held m n a j k x g e same (held g) is f (eqb x.number k.number) refl)
+    (λ a x is. placed_over m n a j k x e same over is (eqb x.number k.number) refl)
     h
 
 -- ---- a job and its open grant change
@@ -169,9 +215,15 @@ module _ (m : Queue) (n : ℕ) (j : Job) (g : Grant) (b : JobAndGrant) (is : IsO
       alone i z (placed_other grant_number i b.grant z m.grants o.0 other, o.1) q in
       subst FitsFree (sym c.1) (h.free a y e before)
 
+  -- the job was granted, so it wasn't over
+  not_over : has_ended j.phase ≡ false
+  not_over = let old = h.held n g is in subst (λ (k : Job). has_ended k.phase ≡ false) (same_job m g.job old.0 j old.1 of) (ap has_ended old.2.phase)
+
   -- the queue stays sound with job and grant as the report leaves them
-  pub keeps_both : Sound (with_both b m)
+  pub keeps_both : Kept m (with_both b m)
   keeps_both = record {
+    follows = follows_placed m g.job j b.job of job_at (λ q. not_over) h;
+    times = refl;
     jobs = ascend_mapped job_number (in_place job_number b.job) (in_place_number job_number b.job) 0 m.next_job m.jobs h.jobs;
     grants = ascend_mapped grant_number (in_place grant_number b.grant) (in_place_number grant_number b.grant) 0 m.next_grant m.grants h.grants;
     one_to_a_modem = λ a c x y o p e. let u = was a x o in let v = was c y p in h.one_to_a_modem a c u.before v.before u.open' v.open' (sym u.modem ∙ e ∙ v.modem);
@@ -183,10 +235,12 @@ module _ (m : Queue) (n : ℕ) (j : Job) (g : Grant) (b : JobAndGrant) (is : IsO
 -- ---- a new job
 
 -- the queue stays sound with a new job of the next number that fits
-pub keeps_new_job : (m : Queue) (j : Job) → j.number ≡ m.next_job → FitsFree j → Sound m → Sound (with_new_job j m)
+pub keeps_new_job : (m : Queue) (j : Job) → j.number ≡ m.next_job → FitsFree j → Sound m → Kept m (with_new_job j m)
 keeps_new_job m j same fits h =
     let none : job_numbered m.next_job m ≡ None = absent job_number 0 m.next_job m.next_job m.jobs h.jobs (omega arith) in
     record {
+      follows = follows_more m.jobs j;
+      times = refl;
       jobs = ascend_more job_number 0 m.next_job m.jobs j h.jobs same;
       grants = h.grants;
       one_to_a_modem = h.one_to_a_modem;
@@ -204,6 +258,7 @@ keeps_new_job m j same fits h =
 -- what a grant may be, of a job that waits and to a modem that holds none
 pub record Grants (m : Queue) (n : ℕ) (j : Job) (b : JobAndGrant) : Type 0 where
   pub of : IsJob m n j
+  pub not_over : has_ended j.phase ≡ false
   pub number : b.job.number ≡ n
   pub grant_number : b.grant.number ≡ m.next_grant
   pub job : b.grant.job ≡ n
@@ -258,8 +313,10 @@ module _ (m : Queue) (n : ℕ) (j : Job) (b : JobAndGrant) (r : Grants m n j b) 
       subst FitsFree (sym c.1) (h.free a y e (λ i z o q. alone i z (stays (λ (g : Grant). eqb g.number i) m.grants b.grant z o.0, o.1) q))
 
   -- the queue stays sound with the new grant
-  pub keeps_new_grant : Sound (with_new_grant b m)
+  pub keeps_new_grant : Kept m (with_new_grant b m)
   keeps_new_grant = record {
+    follows = follows_placed m n j b.job r.of r.number (λ q. r.not_over) h;
+    times = refl;
     jobs = ascend_mapped job_number (in_place job_number b.job) (in_place_number job_number b.job) 0 m.next_job m.jobs h.jobs;
     grants = ascend_more grant_number 0 m.next_grant m.grants b.grant h.grants r.grant_number;
     one_to_a_modem = λ a c x y o p e. modem_by a c x y e (new_or_old a x o) (new_or_old c y p);

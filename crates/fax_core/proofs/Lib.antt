@@ -7,7 +7,10 @@ pub mod RowsOrder
 pub mod RowsFields
 pub mod RowsListed
 mod RowsGaps
+mod RowsTimes
 pub mod PlaceLemmas
+pub mod TimesLemmas
+pub mod StampLemmas
 pub mod KeepLemmas
 pub mod RangeLemmas
 pub mod DecisionLemmas

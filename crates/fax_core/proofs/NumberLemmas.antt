@@ -16,12 +16,13 @@ use Rattle.fax_core.specs.Decisions.{JobAndGrant, is_over, job_asked, new_job, s
 use Rattle.fax_core.specs.Import.{bring}
 use Rattle.fax_core.specs.Job.{Job}
 use Rattle.fax_core.specs.Laws.{NumbersAfter}
-use Rattle.fax_core.specs.Machine.{with_mark, is_down, held_by, submitted, brought_in, changed, on_job, reported, on_both, on_grant, given, given_best, given_free, report_reply, act, step}
+use Rattle.fax_core.specs.Machine.{with_mark, is_down, held_by, submitted, brought_in, changed, on_job, reported, on_both, on_grant, given, given_best, given_free, report_reply, act, stamped, step}
 use Rattle.fax_core.specs.Queue.{Queue, job_numbered, grant_numbered}
 use Rattle.fax_core.specs.Reply.{Reply, Submitted, Brought, Given, Stands, Marked, NoneToSend, Called, Confirmed, Floored, NoKeys, Step, Taken, Refused}
 use Rattle.fax_core.specs.Run.{Request, left_by, decided, queue_after}
 use Rattle.fax_core.specs.Settings.{Rule, Settings, has_modem}
 use Rattle.fax_core.specs.Clock.{decided_at}
+use Rattle.fax_core.specs.Stamp.{stamp}
 use Rattle.fax_core.proofs.DecisionLemmas.{not_refused, ok_same}
 use Rattle.fax_core.proofs.ImportLemmas.{bring_counts}
 
@@ -118,9 +119,25 @@ act_numbers s m t (Next modem) = next_numbers s m t modem (not (has_modem s mode
 act_numbers s m t (OnGrant n report) = on_grant_numbers s m t report (grant_numbered n m)
 act_numbers s m t (GiveUp floor) = (refl, refl)
 
+-- the times of jobs are no numbers
+stamp_numbers : (t : ℕ) (m q n : Queue) (r : Reply) → NumbersAfter m n r → NumbersAfter m (stamp t q n) r
+stamp_numbers t m q n (Submitted job) h = h
+stamp_numbers t m q n (Brought job state) h = h
+stamp_numbers t m q n (Given handed) h = h
+stamp_numbers t m q n (Stands job state) h = h
+stamp_numbers t m q n (Marked down) h = h
+stamp_numbers t m q n NoneToSend h = h
+stamp_numbers t m q n (Called stop) h = h
+stamp_numbers t m q n (Confirmed npages stop) h = h
+stamp_numbers t m q n (Floored floor) h = h
+
+stamped_numbers : (t : ℕ) (m q : Queue) (d : Step) → Numbers m d → Numbers m (stamped t q d)
+stamped_numbers t m q (Taken n r) h = stamp_numbers t m q n r h
+stamped_numbers t m q (Refused e k) h = tt
+
 -- and each step, since ageing leaves the next numbers
 pub step_numbers : (s : Settings) (m n : Queue) (t : ℕ) (ask : Ask) (r : Reply) → step s m t ask ≡ Taken n r → NumbersAfter m n r
-step_numbers s m n t ask r e = subst (Numbers m) e (act_numbers s (aged t m) t ask)
+step_numbers s m n t ask r e = subst (Numbers m) e (stamped_numbers t m (aged t m) (act s (aged t m) t ask) (act_numbers s (aged t m) t ask))
 
 -- a reply leaves the next numbers no lower
 never_lower : (m n : Queue) (r : Reply) → NumbersAfter m n r → (m.next_job ≤ n.next_job) × (m.next_grant ≤ n.next_grant)
@@ -144,6 +161,6 @@ pub run_numbers : (s : Settings) (m : Queue) (rs : List Request) → (m.next_job
 run_numbers s m [] = (omega arith, omega arith)
 run_numbers s m (r ∷ rs) =
     let t = decided_at m.clock r.moment in
-    let here = left_no_lower m (decided s m r) (act_numbers s (aged t m) t r.ask) in
+    let here = left_no_lower m (decided s m r) (stamped_numbers t m (aged t m) (act s (aged t m) t r.ask) (act_numbers s (aged t m) t r.ask)) in
     let rest = run_numbers s (left_by m (decided s m r)) rs in
     (omega (arith, here.0, rest.0), omega (arith, here.1, rest.1))

@@ -18,7 +18,8 @@ use Rattle.fax_core.specs.Decisions.{JobAndGrant, submit, job_asked, granted, gr
 use Rattle.fax_core.specs.Import.{bring}
 use Rattle.fax_core.specs.Job.{Job, HasPages, pages_to}
 use Rattle.fax_core.specs.Laws.{HasSent, ConfirmsPage, GivesJob}
-use Rattle.fax_core.specs.Machine.{with_job, with_both, with_new_job, with_new_grant, with_mark, dial_of, handed, submitted, brought_in, changed, on_job, reported, on_both, on_grant, report_reply, act, step}
+use Rattle.fax_core.specs.Machine.{with_job, with_both, with_new_job, with_new_grant, with_mark, dial_of, handed, submitted, brought_in, changed, on_job, reported, on_both, on_grant, report_reply, act, step, given_to}
+use Rattle.fax_core.specs.Stamp.{stamp}
 use Rattle.fax_core.specs.Queue.{Queue, job_numbered, grant_numbered}
 use Rattle.fax_core.specs.Reply.{Reply, Marked, Handed, Given, NoKeys, Step, Taken, Refused}
 use Rattle.fax_core.specs.Run.{Request, left_by, decided, queue_after, AreLawful}
@@ -28,6 +29,7 @@ use Rattle.fax_core.proofs.DecisionLemmas.{Keeps, aged_number, aged_sent, asked_
 use Rattle.fax_core.proofs.KeepLemmas.{same_job, numbered_job, looked_up, Grants, found_new}
 use Rattle.fax_core.proofs.PlaceLemmas.{stays, placed_here, placed_other}
 use Rattle.fax_core.proofs.StepLemmas.{taken_same, aged_sound, GivenTo, None_to, Best_to, given_is, given_grants, run_sound, step_sound, decided_sound}
+use Rattle.fax_core.proofs.TimesLemmas.{by_stamp}
 
 -- ---- the pages that are sent stay sent
 
@@ -147,7 +149,9 @@ act_keeps s m n t (GiveUp floor) r h e = same_sent m n (ap (λ (q : Queue). q.jo
 
 -- so does a step
 pub step_keeps : (s : Settings) (m n : Queue) (t : ℕ) (ask : Ask) (r : Reply) → Sound m → step s m t ask ≡ Taken n r → KeepsSent m n
-step_keeps s m n t ask r h e = through m (aged t m) n (aged_keeps t m) (act_keeps s (aged t m) n t ask r (aged_sound t m h) e)
+step_keeps s m n t ask r h e =
+    by_stamp (KeepsSent m) t (aged t m) (act s (aged t m) t ask) n r e (λ k is.
+    through m k (stamp t (aged t m) k) (through m (aged t m) k (aged_keeps t m) (act_keeps s (aged t m) k t ask r (aged_sound t m h) is)) (same_sent k (stamp t (aged t m) k) refl))
 
 -- what a step leaves where it is taken, it leaves in any case
 left_keeps : (m : Queue) (x : Step) → ((n : Queue) (r : Reply) → x ≡ Taken n r → KeepsSent m n) → KeepsSent m (left_by m x)
@@ -204,7 +208,8 @@ tail_is (x ∷ xs) ys a (suc n) e =
 -- a page report that is taken confirms the first page left
 pub confirmed : (s : Settings) (m n : Queue) (t a p : ℕ) (r : Reply) → step s m t (OnGrant a (Page p)) ≡ Taken n r → ConfirmsPage (aged t m) n a p
 confirmed s m n t a p r e =
-    let x = on_grant_is s (aged t m) t a (Page p) (grant_numbered a (aged t m)) n r refl e in
+    by_stamp (λ n. ConfirmsPage (aged t m) n a p) t (aged t m) (on_grant s (aged t m) t (Page p) (grant_numbered a (aged t m))) n r e (λ k is.
+    let x = on_grant_is s (aged t m) t a (Page p) (grant_numbered a (aged t m)) k r refl is in
     let f = paged p x.job x.grant x.both x.made in
     let here : x.both.job.number ≡ x.grant.job = f.0.number ∙ numbered_job (aged t m) x.grant.job x.job x.of in
     let there : IsJob (with_job x.both.job (aged t m)) x.grant.job x.both.job = placed_here (λ (y : Job). y.number) x.grant.job x.both.job x.job (aged t m).jobs x.of here in
@@ -219,7 +224,7 @@ confirmed s m n t a p r e =
       left = f.1.left;
       left_now = ap (λ (j : Job). j.left) f.1.job;
       sent_now = ap (λ (j : Job). j.sent) f.1.job;
-    }
+    })
 
 -- ---- a taken request for a job
 
@@ -258,7 +263,23 @@ gives s m n t modem h sound (Best_to j b none same told) =
 pub step_gives : (s : Settings) (m n : Queue) (t : ℕ) (modem : List ℕ) (h : Handed) → Sound m → step s m t (Next modem) ≡ Taken n (Given h) → GivesJob (aged t m) n modem h
 step_gives s m n t modem h sound e =
     let aged_one : Sound (aged t m) = aged_sound t m sound in
-    gives s (aged t m) n t modem h aged_one (given_is s (aged t m) t modem n (Given h) aged_one e)
+    by_stamp (λ n. GivesJob (aged t m) n modem h) t (aged t m) (given_to s (aged t m) t modem) n (Given h) e (λ k is.
+    let given = gives s (aged t m) k t modem h aged_one (given_is s (aged t m) t modem k (Given h) aged_one is) in
+    record {
+      modem_free = given.modem_free;
+      job_free = given.job_free;
+      grant = given.grant;
+      open_grant = given.open_grant;
+      of_modem = given.of_modem;
+      of_job = given.of_job;
+      first_page = given.first_page;
+      last_page = given.last_page;
+      job = given.job;
+      was_there = given.was_there;
+      dial = given.dial;
+      first = given.first;
+      pages = given.pages;
+    })
 
 -- ---- no page is granted again
 

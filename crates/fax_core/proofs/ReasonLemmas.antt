@@ -36,6 +36,7 @@ use Rattle.fax_core.specs.declared.report.Report.{Report}
 use Rattle.fax_core.specs.declared.report.Report.TheVariants as report
 use Rattle.fax_core.proofs.RefusalLemmas.{Decided, held_told}
 use Rattle.fax_core.proofs.StepLemmas.{aged_sound}
+use Rattle.fax_core.proofs.TimesLemmas.{stamped_refused}
 
 -- ---- tests
 
@@ -305,4 +306,4 @@ reason s m t (GiveUp floor) e k sound h = cc
 
 -- so has each step, in the queue as it is at its moment
 pub refusals_have_reasons : RefusalsHaveReasons
-refusals_have_reasons s m t ask e k sound h = reason s (aged t m) t ask e k (aged_sound t m sound) h
+refusals_have_reasons s m t ask e k sound h = reason s (aged t m) t ask e k (aged_sound t m sound) (stamped_refused t (aged t m) (act s (aged t m) t ask) e k h)

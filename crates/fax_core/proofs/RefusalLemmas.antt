@@ -36,6 +36,7 @@ use Rattle.fax_core.proofs.PlaceLemmas.{found, found_in, of_filter, in_found}
 use Rattle.fax_core.proofs.StepLemmas.{aged_sound}
 use Rattle.std.specs.Str.{bytes_eq}
 use Rattle.std.specs.Cmp.Lexicographic.{bytes_decides}
+use Rattle.fax_core.proofs.TimesLemmas.{stamped_refused}
 
 -- the refusal is one of the request's, with its keys
 pub record IsOf (ask : Ask) (e : Refusal) (k : Keys) : Type 0 where
@@ -260,7 +261,7 @@ act_refused s m t (GiveUp floor) e k h x = cc
 
 -- so has each refused step
 pub step_refused : (s : Settings) (m : Queue) (t : ℕ) (ask : Ask) (e : Refusal) (k : Keys) → Sound m → step s m t ask ≡ Refused e k → IsOf ask e k
-step_refused s m t ask e k h x = act_refused s (aged t m) t ask e k (aged_sound t m h) x
+step_refused s m t ask e k h x = act_refused s (aged t m) t ask e k (aged_sound t m h) (stamped_refused t (aged t m) (act s (aged t m) t ask) e k x)
 
 -- ---- what a busy modem is told
 
@@ -313,4 +314,5 @@ next_held s m t modem e c h sound false false x = free_held s m t modem (held_by
 
 -- the same of a step, which ages the jobs first
 pub step_held : (s : Settings) (m : Queue) (t : ℕ) (modem : List ℕ) (e : Refusal) (c : Bool) (h : Handed) → Sound m → step s m t (Next modem) ≡ Refused e (HeldGrant c h) → TellsHeld (aged t m) modem c h
-step_held s m t modem e c h sound x = next_held s (aged t m) t modem e c h (aged_sound t m sound) (not (has_modem s modem)) (is_down modem (aged t m)) x
+step_held s m t modem e c h sound x =
+    next_held s (aged t m) t modem e c h (aged_sound t m sound) (not (has_modem s modem)) (is_down modem (aged t m)) (stamped_refused t (aged t m) (given_to s (aged t m) t modem) e (HeldGrant c h) x)

@@ -1,5 +1,5 @@
 -- A step from a sound queue leaves a sound queue.
-use Rattle.std.proofs.Common.{◌≡◌, ◌≢◌, ℕ, Bool, true, false, cond, not, eqb, List, [], ◌∷◌, refl, sym, ap, subst, ◌∙◌, arith}
+use Rattle.std.proofs.Common.{map, ◌≡◌, ◌≢◌, ℕ, Bool, true, false, cond, not, eqb, List, [], ◌∷◌, refl, sym, ap, subst, ◌∙◌, arith}
 use Rattle.std.specs.Prelude.{Option, Some, None, Result, Ok, Err, max}
 use Rattle.std.specs.Str.{bytes_eq}
 use Rattle.std.specs.Cmp.Lexicographic.{bytes_decides}
@@ -25,9 +25,11 @@ use Rattle.fax_core.specs.Settings.{Rule, Settings, has_modem}
 use Rattle.fax_core.specs.Sound.{FitsFree, FitsGrant, IsJob, IsOpen, Sound}
 use Rattle.fax_core.proofs.BestLemmas.{best_is, none_goes, ready_waits}
 use Rattle.fax_core.proofs.DecisionLemmas as decision
-use Rattle.fax_core.proofs.DecisionLemmas.{Keeps, IsReport, aged_number, aged_free, aged_held, asked_in, reported_in, granted_fits, not_refused, ok_same}
+use Rattle.fax_core.proofs.DecisionLemmas.{Keeps, IsReport, aged_number, aged_over, aged_free, aged_held, asked_in, reported_in, granted_fits, not_refused, ok_same}
 use Rattle.fax_core.proofs.ImportLemmas.{bring_counts, bring_fits}
-use Rattle.fax_core.proofs.KeepLemmas.{same_job, numbered_job, keeps_mapped, keeps_job, keeps_both, keeps_new_job, Grants, keeps_new_grant}
+use Rattle.fax_core.proofs.KeepLemmas.{same_job, numbered_job, keeps_mapped, keeps_job, keeps_both, keeps_new_job, Grants, keeps_new_grant, Kept, kept_of, stamp_sound}
+use Rattle.fax_core.proofs.TimesLemmas.{follows_same, stamped_taken}
+use Rattle.fax_core.specs.Times.{has_ended}
 use Rattle.fax_core.proofs.PlaceLemmas.{In, found_in, none_passes, in_filter}
 
 -- ---- what is taken
@@ -43,67 +45,67 @@ not_refused_step false e k x n r h = (refl, h)
 
 -- ageing leaves a sound queue sound
 pub aged_sound : (t : ℕ) (m : Queue) → Sound m → Sound (aged t m)
-aged_sound t m h = keeps_mapped m (aged_job t) t (aged_number t) (λ n j is. aged_free t j) (λ n j g is. aged_held t j g) h
+aged_sound t m h = stamp_sound t m (record m { jobs = map (aged_job t) m.jobs; clock = t }) h (keeps_mapped m (aged_job t) t (aged_number t) (λ n j is. aged_free t j) (λ n j g is. aged_held t j g) (λ n j is. aged_over t j) h)
 
 -- ---- submission
 
 -- a submission of a job with the next number that fits leaves the queue sound
-submission_sound : (m : Queue) (rule : Rule) (d : Result Job Refusal) (n : Queue) (r : Reply) → ((j : Job) → d ≡ Ok j → (j.number ≡ m.next_job) × FitsFree j) → Sound m → submitted m rule d ≡ Taken n r → Sound n
-submission_sound m rule (Ok j) n r of h e = let f = of j refl in subst Sound (taken_same (with_new_job j m) n _ r e).0 (keeps_new_job m j f.0 f.1 h)
+submission_sound : (m : Queue) (rule : Rule) (d : Result Job Refusal) (n : Queue) (r : Reply) → ((j : Job) → d ≡ Ok j → (j.number ≡ m.next_job) × FitsFree j) → Sound m → submitted m rule d ≡ Taken n r → Kept m n
+submission_sound m rule (Ok j) n r of h e = let f = of j refl in subst (Kept m) (taken_same (with_new_job j m) n _ r e).0 (keeps_new_job m j f.0 f.1 h)
 submission_sound m rule (Err x) n r of h e = cc
 
 -- so does an import
-import_sound : (s : Settings) (m : Queue) (t : ℕ) (rule : Rule) (d : Result Job Refusal) (n : Queue) (r : Reply) → ((j : Job) → d ≡ Ok j → (j.number ≡ m.next_job) × FitsFree j) → Sound m → brought_in s m t rule d ≡ Taken n r → Sound n
-import_sound s m t rule (Ok j) n r of h e = let f = of j refl in subst Sound (taken_same (with_new_job j m) n _ r e).0 (keeps_new_job m j f.0 f.1 h)
+import_sound : (s : Settings) (m : Queue) (t : ℕ) (rule : Rule) (d : Result Job Refusal) (n : Queue) (r : Reply) → ((j : Job) → d ≡ Ok j → (j.number ≡ m.next_job) × FitsFree j) → Sound m → brought_in s m t rule d ≡ Taken n r → Kept m n
+import_sound s m t rule (Ok j) n r of h e = let f = of j refl in subst (Kept m) (taken_same (with_new_job j m) n _ r e).0 (keeps_new_job m j f.0 f.1 h)
 import_sound s m t rule (Err x) n r of h e = cc
 
 -- ---- requests on a job
 
 -- a change that keeps what fits leaves the queue sound
-changed_sound : (s : Settings) (m : Queue) (t : ℕ) (a : ℕ) (j : Job) (d : Result Job Refusal) (n : Queue) (r : Reply) → IsJob m a j → ((k : Job) → d ≡ Ok k → Keeps j k) → Sound m → changed s m t d ≡ Taken n r → Sound n
+changed_sound : (s : Settings) (m : Queue) (t : ℕ) (a : ℕ) (j : Job) (d : Result Job Refusal) (n : Queue) (r : Reply) → IsJob m a j → ((k : Job) → d ≡ Ok k → Keeps j k) → Sound m → changed s m t d ≡ Taken n r → Kept m n
 changed_sound s m t a j (Ok k) n r is keeps h e =
     let f = keeps k refl in
-    subst Sound (taken_same (with_job k m) n _ r e).0 (keeps_job m a j k is (f.number ∙ numbered_job m a j is) f.free f.held h)
+    subst (Kept m) (taken_same (with_job k m) n _ r e).0 (keeps_job m a j k is (f.number ∙ numbered_job m a j is) f.free f.held f.over h)
 changed_sound s m t a j (Err x) n r is keeps h e = cc
 
 -- so does a request on a job
-on_job_sound : (s : Settings) (m : Queue) (t : ℕ) (a : ℕ) (ask : JobAsk) (o : Option Job) (n : Queue) (r : Reply) → job_numbered a m ≡ o → Sound m → on_job s m t ask o ≡ Taken n r → Sound n
+on_job_sound : (s : Settings) (m : Queue) (t : ℕ) (a : ℕ) (ask : JobAsk) (o : Option Job) (n : Queue) (r : Reply) → job_numbered a m ≡ o → Sound m → on_job s m t ask o ≡ Taken n r → Kept m n
 on_job_sound s m t a ask None n r is h e = cc
 on_job_sound s m t a ask (Some j) n r is h e = changed_sound s m t a j (job_asked ask t j) n r is (asked_in ask t j) h e
 
 -- ---- reports
 
 -- a report leaves the queue sound
-reported_sound : (m : Queue) (reply : Queue → JobAndGrant → Reply) (a : ℕ) (g : Grant) (j : Job) (d : Result JobAndGrant Refusal) (n : Queue) (r : Reply) → grant_numbered a m ≡ Some g → IsJob m g.job j → ((b : JobAndGrant) → d ≡ Ok b → IsReport j g b) → Sound m → reported m reply j d ≡ Taken n r → Sound n
+reported_sound : (m : Queue) (reply : Queue → JobAndGrant → Reply) (a : ℕ) (g : Grant) (j : Job) (d : Result JobAndGrant Refusal) (n : Queue) (r : Reply) → grant_numbered a m ≡ Some g → IsJob m g.job j → ((b : JobAndGrant) → d ≡ Ok b → IsReport j g b) → Sound m → reported m reply j d ≡ Taken n r → Kept m n
 reported_sound m reply a g j (Ok b) n r is of report h e =
     let f = report b refl in
     let open' : IsOpen m a g = (is, f.was_open) in
     let old = h.held a g open' in
     let fits : FitsGrant j g = subst (λ (k : Job). FitsGrant k g) (same_job m g.job old.0 j old.1 of) old.2 in
-    subst Sound (taken_same (with_both b m) n _ r e).0 (keeps_both m a j g b open' of (f.reports fits) h)
+    subst (Kept m) (taken_same (with_both b m) n _ r e).0 (keeps_both m a j g b open' of (f.reports fits) h)
 reported_sound m reply a g j (Err x) n r is of report h e = cc
 
 -- the same of a grant whose job is there or not
 on_both_sound : (s : Settings) (m : Queue) (t : ℕ) (a : ℕ) (x : Report) (g : Grant) (o : Option Job) (n : Queue) (r : Reply)
-    → grant_numbered a m ≡ Some g → job_numbered g.job m ≡ o → Sound m → on_both s m t x g o ≡ Taken n r → Sound n
+    → grant_numbered a m ≡ Some g → job_numbered g.job m ≡ o → Sound m → on_both s m t x g o ≡ Taken n r → Kept m n
 on_both_sound s m t a x g None n r is of h e = cc
 on_both_sound s m t a x g (Some j) n r is of h e = reported_sound m (report_reply s t x) a g j (grant_reported x s.delay t j g) n r is of (reported_in x s.delay t j g) h e
 
 -- the same of a grant that is there or not
-on_grant_sound : (s : Settings) (m : Queue) (t : ℕ) (a : ℕ) (x : Report) (o : Option Grant) (n : Queue) (r : Reply) → grant_numbered a m ≡ o → Sound m → on_grant s m t x o ≡ Taken n r → Sound n
+on_grant_sound : (s : Settings) (m : Queue) (t : ℕ) (a : ℕ) (x : Report) (o : Option Grant) (n : Queue) (r : Reply) → grant_numbered a m ≡ o → Sound m → on_grant s m t x o ≡ Taken n r → Kept m n
 on_grant_sound s m t a x None n r is h e = cc
 on_grant_sound s m t a x (Some g) n r is h e = on_both_sound s m t a x g (job_numbered g.job m) n r is refl h e
 
 -- ---- modems
 
 -- a mark leaves the queue sound
-mark_sound : (m : Queue) (modem : List ℕ) (down : Bool) → Sound m → Sound (with_mark modem down m)
-mark_sound m modem true h = record { jobs = h.jobs; grants = h.grants; one_to_a_modem = h.one_to_a_modem; one_of_a_job = h.one_of_a_job; held = h.held; free = h.free }
-mark_sound m modem false h = record { jobs = h.jobs; grants = h.grants; one_to_a_modem = h.one_to_a_modem; one_of_a_job = h.one_of_a_job; held = h.held; free = h.free }
+mark_sound : (m : Queue) (modem : List ℕ) (down : Bool) → Sound m → Kept m (with_mark modem down m)
+mark_sound m modem true h = record { follows = follows_same m.jobs; times = refl; jobs = h.jobs; grants = h.grants; one_to_a_modem = h.one_to_a_modem; one_of_a_job = h.one_of_a_job; held = h.held; free = h.free }
+mark_sound m modem false h = record { follows = follows_same m.jobs; times = refl; jobs = h.jobs; grants = h.grants; one_to_a_modem = h.one_to_a_modem; one_of_a_job = h.one_of_a_job; held = h.held; free = h.free }
 
 -- so does a request that marks a modem
-marked_by : (m : Queue) (modem : List ℕ) (down b : Bool) (n : Queue) (r : Reply) → Sound m → cond b (Taken (with_mark modem down m) (Marked down)) (Refused NoModem NoKeys) ≡ Taken n r → Sound n
-marked_by m modem down true n r h e = subst Sound (taken_same (with_mark modem down m) n _ r e).0 (mark_sound m modem down h)
+marked_by : (m : Queue) (modem : List ℕ) (down b : Bool) (n : Queue) (r : Reply) → Sound m → cond b (Taken (with_mark modem down m) (Marked down)) (Refused NoModem NoKeys) ≡ Taken n r → Kept m n
+marked_by m modem down true n r h e = subst (Kept m) (taken_same (with_mark modem down m) n _ r e).0 (mark_sound m modem down h)
 marked_by m modem down false n r h e = cc
 
 -- ---- grants
@@ -127,6 +129,7 @@ given_grants s m t modem j h none b =
     cc (waits, held) in
     record {
       of = b.goes.there;
+      not_over = ap has_ended waits;
       number = refl;
       grant_number = refl;
       job = refl;
@@ -169,25 +172,27 @@ given_is s m t modem n r h e =
     free_given s m t modem (held_by modem m) n r h refl b.1
 
 -- what is given leaves the queue sound
-given_sound : (s : Settings) (m : Queue) (t : ℕ) (modem : List ℕ) (n : Queue) (r : Reply) → Sound m → GivenTo s m t modem n r → Sound n
-given_sound s m t modem n r h (None_to none same told) = subst Sound same h
-given_sound s m t modem n r h (Best_to j b none same told) = subst Sound same (keeps_new_grant m j.number j (granted j modem m.next_grant) (given_grants s m t modem j h none b) h)
+given_sound : (s : Settings) (m : Queue) (t : ℕ) (modem : List ℕ) (n : Queue) (r : Reply) → Sound m → GivenTo s m t modem n r → Kept m n
+given_sound s m t modem n r h (None_to none same told) = subst (Kept m) same (kept_of m h)
+given_sound s m t modem n r h (Best_to j b none same told) = subst (Kept m) same (keeps_new_grant m j.number j (granted j modem m.next_grant) (given_grants s m t modem j h none b) h)
 
 -- ---- each request
 
 -- each request leaves the queue sound
-act_sound : (s : Settings) (m n : Queue) (t : ℕ) (ask : Ask) (r : Reply) → Sound m → IsLawfulAsk ask → act s m t ask ≡ Taken n r → Sound n
+act_sound : (s : Settings) (m n : Queue) (t : ℕ) (ask : Ask) (r : Reply) → Sound m → IsLawfulAsk ask → act s m t ask ≡ Taken n r → Kept m n
 act_sound s m n t (Submission o) r h lawful e = submission_sound m (s.rule o.dial) (submit o (s.rule o.dial) m.next_job s.max_jobs t) n r (λ j. decision.submitted o (s.rule o.dial) m.next_job s.max_jobs t j lawful) h e
 act_sound s m n t (Bring i) r h lawful e = import_sound s m t (s.rule i.order.dial) (bring i (s.rule i.order.dial) m.next_job s.max_jobs t) n r (λ j is. ((bring_counts i (s.rule i.order.dial) m.next_job s.max_jobs t j is).number, bring_fits i (s.rule i.order.dial) m.next_job s.max_jobs t j lawful is)) h e
 act_sound s m n t (OnJob a ask) r h lawful e = on_job_sound s m t a ask (job_numbered a m) n r refl h e
 act_sound s m n t (Mark modem down) r h lawful e = marked_by m modem down (has_modem s modem) n r h e
 act_sound s m n t (Next modem) r h lawful e = given_sound s m t modem n r h (given_is s m t modem n r h e)
 act_sound s m n t (OnGrant a report) r h lawful e = on_grant_sound s m t a report (grant_numbered a m) n r refl h e
-act_sound s m n t (GiveUp floor) r h lawful e = subst Sound (taken_same m n _ r e).0 h
+act_sound s m n t (GiveUp floor) r h lawful e = subst (Kept m) (taken_same m n _ r e).0 (kept_of m h)
 
 -- so does a step
 pub step_sound : (s : Settings) (m n : Queue) (t : ℕ) (ask : Ask) (r : Reply) → Sound m → IsLawfulAsk ask → step s m t ask ≡ Taken n r → Sound n
-step_sound s m n t ask r h lawful e = act_sound s (aged t m) n t ask r (aged_sound t m h) lawful e
+step_sound s m n t ask r h lawful e =
+    let act' = stamped_taken t (aged t m) (act s (aged t m) t ask) n r e in
+    subst Sound (sym act'.2) (stamp_sound t (aged t m) act'.0 (aged_sound t m h) (act_sound s (aged t m) act'.0 t ask r (aged_sound t m h) lawful act'.1))
 
 -- what a step leaves sound where it is taken, it leaves sound in any case
 left_sound : (m : Queue) (x : Step) → Sound m → ((n : Queue) (r : Reply) → x ≡ Taken n r → Sound n) → Sound (left_by m x)
@@ -206,6 +211,7 @@ run_sound s m (r ∷ rs) h lawful = run_sound s (left_by m (decided s m r)) rs (
 -- the empty queue is sound
 pub empty_sound : Sound Rattle.fax_core.specs.Queue.empty_queue
 empty_sound = record {
+  timed = tt;
   jobs = omega arith;
   grants = omega arith;
   one_to_a_modem = λ a b g h o p e. cc (o.0);
@@ -226,7 +232,9 @@ best_of s m n t modem h (Best_to j b none same told) =
 
 -- the same of a step, which ages the jobs first
 pub step_best : (s : Settings) (m n : Queue) (t : ℕ) (modem : List ℕ) (h : Handed) → Sound m → step s m t (Next modem) ≡ Taken n (Given h) → (j : Job) × (IsBest s (aged t m) t modem j × (j.number ≡ h.job))
-step_best s m n t modem h sound e = best_of s (aged t m) n t modem h (given_is s (aged t m) t modem n (Given h) (aged_sound t m sound) e)
+step_best s m n t modem h sound e =
+    let d = stamped_taken t (aged t m) (given_to s (aged t m) t modem) n (Given h) e in
+    best_of s (aged t m) d.0 t modem h (given_is s (aged t m) t modem d.0 (Given h) (aged_sound t m sound) d.1)
 
 -- where none is given, no job may go
 none_of : (s : Settings) (m n : Queue) (t : ℕ) (modem : List ℕ) (j : Job) → GivenTo s m t modem n NoneToSend → MayGo s m t modem j → ⊥
@@ -235,4 +243,6 @@ none_of s m n t modem j (Best_to k b none same told) g = cc
 
 -- the same of a step, which ages the jobs first
 pub step_none : (s : Settings) (m n : Queue) (t : ℕ) (modem : List ℕ) (j : Job) → Sound m → step s m t (Next modem) ≡ Taken n NoneToSend → MayGo s (aged t m) t modem j → ⊥
-step_none s m n t modem j sound e g = none_of s (aged t m) n t modem j (given_is s (aged t m) t modem n NoneToSend (aged_sound t m sound) e) g
+step_none s m n t modem j sound e g =
+    let d = stamped_taken t (aged t m) (given_to s (aged t m) t modem) n NoneToSend e in
+    none_of s (aged t m) d.0 t modem j (given_is s (aged t m) t modem d.0 NoneToSend (aged_sound t m sound) d.1) g

@@ -7,6 +7,7 @@ use Rattle.fax_core.specs.declared.ageing.Aging.{Aging}
 use Rattle.fax_core.specs.declared.ageing.Aging.TheVariants.{Stays, Expires}
 use Rattle.fax_core.specs.Job.{Job}
 use Rattle.fax_core.specs.Queue.{Queue}
+use Rattle.fax_core.specs.Stamp.{stamp}
 
 -- a kill time from 1 to t
 abbrev pub is_past : Option ℕ → ℕ → Bool
@@ -23,9 +24,9 @@ expires other = false
 abbrev pub aged_job : ℕ → Job → Job
 aged_job t j = if expires j.phase && is_past j.killtime t then record j { phase = Failed; status = kill_time_expired } else j
 
--- the queue at t
+-- the queue at t: what expires ends at t
 abbrev pub aged : ℕ → Queue → Queue
-aged t m = record m { jobs = map (aged_job t) m.jobs; clock = t }
+aged t m = stamp t m (record m { jobs = map (aged_job t) m.jobs; clock = t })
 
 -- ---- what ageing says of a job
 

@@ -1,5 +1,7 @@
 pub mod Job
+pub mod Times
 pub mod Queue
+pub mod Stamp
 pub mod Ledger
 pub mod Settings
 pub mod Clock

@@ -18,6 +18,7 @@ use Rattle.fax_core.specs.Job.{Job}
 use Rattle.fax_core.specs.Queue.{Queue, open_grants, job_numbered, grant_numbered}
 use Rattle.fax_core.specs.Reply.{Handed, Reply, Submitted, Brought, Stands, Marked, NoneToSend, Given, Called, Confirmed, Floored, Keys, NoKeys, Notice, HeldGrant, Pages, Step, Taken, Refused}
 use Rattle.fax_core.specs.Settings.{Rule, Settings, has_modem}
+use Rattle.fax_core.specs.Stamp.{stamp}
 use Rattle.fax_core.specs.State.{state}
 
 -- ---- places in the queue
@@ -171,6 +172,11 @@ act s m t (Next modem) = given_to s m t modem
 act s m t (OnGrant n report) = on_grant s m t report (grant_numbered n m)
 act s m t (GiveUp floor) = Taken m (Floored floor)
 
+-- the times of the jobs follow a change
+abbrev pub stamped : ℕ → Queue → Step → Step
+stamped t m (Taken after reply) = Taken (stamp t m after) reply
+stamped t m (Refused e keys) = Refused e keys
+
 -- a request at t, on the queue as it is at t
 abbrev pub step : Settings → Queue → ℕ → Ask → Step
-step s m t ask = act s (aged t m) t ask
+step s m t ask = stamped t (aged t m) (act s (aged t m) t ask)

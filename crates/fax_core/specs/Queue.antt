@@ -3,11 +3,14 @@ use Rattle.std.specs.Prelude.{◌==◌, ℕ, List, [], Option}
 use Rattle.std.specs.List.{filter, find}
 use Rattle.fax_core.specs.declared.grants.Grant.{Grant}
 use Rattle.fax_core.specs.Job.{Job}
+use Rattle.fax_core.specs.declared.times.Times.{Times}
 
 pub record Queue : Type 0 where
   -- all jobs and all grants, each by number
   pub jobs : List Job
   pub grants : List Grant
+  -- the times of the jobs, in their order
+  pub times : List Times
   -- the modems that are down
   pub down : List (List ℕ)
   pub clock : ℕ
@@ -25,6 +28,10 @@ job_numbered n m = find (λ j. j.number == n) m.jobs
 abbrev pub grant_numbered : ℕ → Queue → Option Grant
 grant_numbered n m = find (λ g. g.number == n) m.grants
 
+-- the times of the job of a number
+abbrev pub times_numbered : ℕ → Queue → Option Times
+times_numbered n m = find (λ x. x.job == n) m.times
+
 -- what a client said under a request number, and the reply that it got
 pub record Entry : Type 0 where
   pub client : List ℕ
@@ -35,4 +42,4 @@ pub record Entry : Type 0 where
 
 -- no jobs, grants or modems down, the clock at 0 and the next numbers 1
 abbrev pub empty_queue : Queue
-empty_queue = record { jobs = []; grants = []; down = []; clock = 0; next_job = 1; next_grant = 1 }
+empty_queue = record { jobs = []; grants = []; times = []; down = []; clock = 0; next_job = 1; next_grant = 1 }

@@ -6,6 +6,7 @@ use Rattle.fax_job.specs.declared.job.Wish.TheVariants.{Go}
 use Rattle.fax_core.specs.declared.grants.Grant.{Grant}
 use Rattle.fax_core.specs.Job.{Job, HasPages}
 use Rattle.fax_core.specs.Queue.{Queue, job_numbered, grant_numbered}
+use Rattle.fax_core.specs.Times.{AreTimed}
 
 -- the pages are in order, and the counters within their limits
 pub record IsCounted (j : Job) : Type 0 where
@@ -76,5 +77,7 @@ pub record Sound (m : Queue) : Type 0 where
   pub one_of_a_job : (a b : ℕ) (g h : Grant) → IsOpen m a g → IsOpen m b h → g.job ≡ h.job → a ≡ b
   -- an open grant has its job, and they fit
   pub held : (a : ℕ) (g : Grant) → IsOpen m a g → (j : Job) × IsJob m g.job j × Fits j (Some g)
+  -- each job has its times
+  pub timed : AreTimed m.jobs m.times
   -- a job that no open grant has fits alone
   pub free : (n : ℕ) (j : Job) → IsJob m n j → ((a : ℕ) (g : Grant) → IsOpen m a g → g.job ≢ n) → Fits j None

@@ -21,6 +21,7 @@ pub mod laws;
 mod report;
 mod state;
 mod submission;
+mod times;
 mod worker;
 
 pub use ageing::{Aging, aged, aged_job};
@@ -34,4 +35,5 @@ pub use import::bring;
 pub use report::{Ending, Outcome, Report};
 pub use state::{State, state_at};
 pub use submission::submit;
+pub use times::{Times, has_ended};
 pub use worker::{call, outcome, page, stops};

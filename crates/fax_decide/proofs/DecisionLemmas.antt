@@ -10,6 +10,7 @@ use Rattle.fax_core.specs.Decisions.{JobAndGrant}
 use Rattle.fax_core.specs.Job.{Job}
 use Rattle.fax_core.specs.Machine.{keys_of_job, reported}
 use Rattle.fax_core.specs.Queue.{Queue}
+use Rattle.fax_core.proofs.StampLemmas.{stamp_same}
 use Rattle.fax_core.specs.Reply as machine
 use Rattle.fax_core.specs.Reply.{Step}
 use Rattle.fax_decide.specs.Decision.{IsRefused, IsTaken}
@@ -29,7 +30,8 @@ taken_or effect P Q (Err e) result is why holds = subst (λ d. OrNoAnswer d Q) (
 -- what leaves the aged queue is taken, and told
 pub nothing_taken : (m : Queue) (t : ℕ) (told : machine.Reply) (reply : Response) → reply ≡ accepted_response (Replied told)
     → IsTaken (machine.Taken (aged t m) told) m t Nothing reply
-nothing_taken m t told reply replied = record { suits = _; within = tt; told = told; taken = refl; replied = replied }
+nothing_taken m t told reply replied =
+    record { suits = _; within = tt; told = told; taken = ap (λ (n : Queue). machine.Taken n told) (stamp_same t (aged t m) (aged t m) refl); replied = replied }
 
 -- what the machine refuses is refused, and told with its keys
 pub refused_as : {step : Step} {e : Refusal} {keys : machine.Keys} {reply : Response} → step ≡ machine.Refused e keys → reply ≡ refused_response e keys

@@ -3,11 +3,13 @@ use Rattle.std.proofs.Common.{◌≡◌, ◌⊎◌, inl, inr, ℕ, ◌≤◌, Bo
 use Rattle.std.proofs.lemmas.Bool.{cases_Bool}
 use Rattle.std.proofs.lemmas.Slice.Eq.{bytes_eq-Decides}
 use Rattle.fax_core.specs.declared.grants.Grant.{Grant}
-use Rattle.fax_core.specs.Ageing.{aged_job}
 use Rattle.fax_core.specs.Job.{Job, job_of}
 use Rattle.fax_core.specs.Machine.{held_by}
 use Rattle.fax_core.specs.Queue.{Queue, grant_numbered, open_grants}
 use Rattle.fax_core.specs.Sound.{AscendBetween, IsOpen, Sound}
+use Rattle.fax_core.specs.Stamp.{came}
+use Rattle.fax_core.specs.declared.times.Times.{Times}
+use Rattle.fax_core.proofs.StampLemmas.{timed_numbers}
 use Rattle.fax_core.proofs.PlaceLemmas.{In, ascend_few, found, found_in, in_found, of_filter}
 use Rattle.fax_tables.specs.Place.{placed}
 use Rattle.fax_store.specs.Grant.{IsNewGrant}
@@ -31,9 +33,17 @@ last_placed number low high x (y ∷ ys) ascend n =
 pub job_placed : (m : Queue) (j : Job) → Sound m → j.number ≡ m.next_job → placed (λ (k : Job). k.number) j m.jobs ≡ m.jobs ++ j ∷ []
 job_placed m j h n = last_placed (λ (k : Job). k.number) 0 m.next_job j m.jobs h.jobs n
 
+-- the times of a sound queue are in order
+times_ascend : (m : Queue) → Sound m → AscendBetween 0 (map (λ (y : Times). y.job) m.times) m.next_job
+times_ascend m h = subst (λ (ns : List ℕ). AscendBetween 0 ns m.next_job) (sym (timed_numbers m.jobs m.times h.timed)) h.jobs
+
 -- a grant of the next number comes after those of a sound queue
 pub grant_placed : (m : Queue) (g : Grant) → Sound m → g.number ≡ m.next_grant → placed (λ (h : Grant). h.number) g m.grants ≡ m.grants ++ g ∷ []
 grant_placed m g h n = last_placed (λ (h : Grant). h.number) 0 m.next_grant g m.grants h.grants n
+
+-- the times of such a job come after those of its queue
+pub times_placed : (m : Queue) (x : Times) → Sound m → x.job ≡ m.next_job → placed (λ (y : Times). y.job) x m.times ≡ m.times ++ x ∷ []
+times_placed m x h n = last_placed (λ (y : Times). y.job) 0 m.next_job x m.times (times_ascend m h) n
 
 -- ---- keys that were free
 
@@ -69,9 +79,13 @@ was_free number low high x (y ∷ ys) after = elim (cases_Bool (nat_lt (number y
       below_all number (number x) high (number x) (y ∷ ys) all.1 (omega arith))
 ]
 
--- a job that leaves a sound queue has a number that none had
-job_free : (t : ℕ) (j : Job) (m : Queue) (next : ℕ) → AscendBetween 0 (map (λ (k : Job). k.number) (placed (λ (k : Job). k.number) j (map (aged_job t) m.jobs))) next → IsNewJob j (with_expired t m)
-job_free t j m next after = was_free (λ (k : Job). k.number) 0 next j (map (aged_job t) m.jobs) after
+-- a job that leaves a sound queue has a number that none had, and no times
+job_free : (t : ℕ) (j : Job) (m after : Queue) → after.jobs ≡ placed (λ (k : Job). k.number) j (with_expired t m).jobs
+    → after.times ≡ placed (λ (x : Times). x.job) (came t j) (with_expired t m).times → Sound after → IsNewJob j (with_expired t m)
+job_free t j m after jobs times still = (
+  was_free (λ (k : Job). k.number) 0 after.next_job j (with_expired t m).jobs (subst (λ (js : List Job). AscendBetween 0 (map (λ (k : Job). k.number) js) after.next_job) jobs still.jobs),
+  was_free (λ (x : Times). x.job) 0 after.next_job (came t j) (with_expired t m).times (subst (λ (xs : List Times). AscendBetween 0 (map (λ (x : Times). x.job) xs) after.next_job) times (times_ascend after still)),
+)
 
 -- a grant that leaves one has such a number, and neither its modem nor its job held one
 module _ (m after : Queue) (g : Grant) (sound : Sound m) (still : Sound after) (is : after.grants ≡ placed (λ (h : Grant). h.number) g m.grants) (is_open : g.is_open ≡ true) where
@@ -114,7 +128,7 @@ module _ (m after : Queue) (g : Grant) (sound : Sound m) (still : Sound after) (
 
 -- so what is accepted takes no key that is taken
 pub keys_free : (t : ℕ) (effect : Effect) (m : Queue) → Sound m → Sound (accepted t effect m) → IsWithin effect (with_expired t m) → IsFree effect (with_expired t m)
-keys_free t (NewJob f meta) m sound still within = job_free t (job_of f) m (accepted t (NewJob f meta) m).next_job still.jobs
+keys_free t (NewJob f meta) m sound still within = job_free t (job_of f) m (accepted t (NewJob f meta) m) refl refl still
 keys_free t (NewGrant f g) m sound still within =
     let after = accepted t (NewGrant f g) m in
     let free = grant_free m after g sound still refl within.0.is_open in

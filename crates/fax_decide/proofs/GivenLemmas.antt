@@ -34,6 +34,10 @@ use Rattle.fax_decide.specs.Records.{job_in}
 use Rattle.fax_decide.specs.Decision.{IsTaken}
 use Rattle.fax_decide.specs.Effect.{accepted}
 use Rattle.fax_decide.specs.declared.effect.Effect.TheVariants.{NewGrant}
+use Rattle.fax_core.specs.Stamp.{stamp}
+use Rattle.fax_core.specs.Times.{has_ended}
+use Rattle.fax_store.specs.Times.{is_over_as, with_ends}
+use Rattle.fax_decide.proofs.EndLemmas.{stamp_put}
 use Rattle.fax_decide.proofs.LinesLemmas.{lined}
 use Rattle.fax_decide.proofs.RecordLemmas.{aged_numbered, aged_same, none_told, open_there}
 use Rattle.fax_decide.proofs.FreeLemmas.{grant_placed}
@@ -45,10 +49,13 @@ both j g = record { job = j; grant = g }
 
 -- the grant comes at the end, as the machine puts it
 queue_is : (m : Queue) (t : ℕ) (f : JobFields) (j : Job) (g : Grant) → Sound m → job_in (aged t m) f ≡ j → g.number ≡ m.next_grant
-    → with_new_grant (both j g) (aged t m) ≡ accepted t (NewGrant f g) m
-queue_is m t f j g sound is n =
-    ap (λ (k : Job). with_new_grant (both k g) (aged t m)) (sym is)
-    ∙ ap (λ (gs : List Grant). record (with_job (job_in (aged t m) f) (aged t m)) { grants = gs; next_grant = m.next_grant + 1 }) (sym (grant_placed m g sound n))
+    → (old : Job) → job_numbered f.job (aged t m) ≡ Some old → has_ended old.phase ≡ false
+    → stamp t (aged t m) (with_new_grant (both j g) (aged t m)) ≡ accepted t (NewGrant f g) m
+queue_is m t f j g sound is n old there goes =
+    let whole = job_in (aged t m) f in
+    ap (λ (k : Job). stamp t (aged t m) (with_new_grant (both k g) (aged t m))) (sym is)
+    ∙ stamp_put t (aged t m) (with_new_grant (both whole g) (aged t m)) old whole refl there goes
+    ∙ ap (λ (gs : List Grant). record (with_ends t (is_over_as whole) (with_job whole (aged t m))) { grants = gs; next_grant = m.next_grant + 1 }) (sym (grant_placed m g sound n))
 
 -- the number to dial of the grant's job is that of its changed record
 dial_there : (m : Queue) (c : Change) (j : Job) (f : JobFields) (g : Grant) → job_numbered j.number m ≡ Some j → g.job ≡ j.number → job_of f ≡ changed c j
@@ -61,10 +68,10 @@ dial_there m c j f g there of is =
 -- the changed job and its new grant are given
 pub given_new : (m : Queue) (t : ℕ) (c : Change) (old f : JobFields) (g : Grant) (reply : Response)
     → Sound m → job_numbered old.job (aged t m) ≡ Some (job_of old) → g.job ≡ old.job → g.number ≡ m.next_grant
-    → Ok (job_of f) ≡ recorded (Ok (changed c (job_of old))) → IsOpenGrant g
+    → Ok (job_of f) ≡ recorded (Ok (changed c (job_of old))) → has_ended old.phase ≡ false → IsOpenGrant g
     → ((n : Queue) → dial_of (job_numbered g.job n) ≡ f.dial → reply ≡ accepted_response (Replied (machine.Given (handed g n))))
     → IsTaken (given (aged t m) (decided_with g (job_of old) (Ok c))) m t (NewGrant f g) reply
-given_new m t c old f g reply sound there of n after new told =
+given_new m t c old f g reply sound there of n after goes new told =
     let j = job_of old in
     let bare : job_in (aged t m) old ≡ j = ap (λ (o : Option Job). lined (lines_of o) j) there in
     let here = there ∙ ap (λ (k : Job). Some k) (sym bare) in
@@ -74,7 +81,8 @@ given_new m t c old f g reply sound there of n after new told =
       within = (new, (let left : m.next_grant < last_grant + 1 = omega (arith, n, new.limits.number.1) in left));
       told = machine.Given (handed g left);
       taken = ap (λ (q : Queue). machine.Taken q (machine.Given (handed g left)))
-          (queue_is m t f (changed c j) g sound (whole_changed m t c old f here after ∙ ap (changed c) bare) n);
+          (queue_is m t f (changed c j) g sound (whole_changed m t c old f here after ∙ ap (changed c) bare) n j
+          (subst (λ (i : ℕ). job_numbered i (aged t m) ≡ Some j) (sym (ap (λ (x : Job). x.number) (recorded_is (job_of f) (changed c j) after))) there) goes);
       replied = told left (dial_there (aged t m) c j f g there of (recorded_is (job_of f) (changed c j) after));
     }
 

@@ -1,5 +1,5 @@
 -- What is decided of a request on a job.
-use Rattle.std.proofs.Common.{◌≡◌, ℕ, true, false, cond, Some, Ok, Err, Result, sym, ap, subst, ◌∙◌}
+use Rattle.std.proofs.Common.{◌≡◌, ℕ, true, false, cond, refl, Some, Ok, Err, Result, sym, ap, subst, ◌∙◌}
 use Rattle.fax_job.specs.declared.job.JobFields.{JobFields}
 use Rattle.fax_job.specs.declared.refusal.Refusal.{Refusal}
 use Rattle.fax_job.specs.declared.refusal.Refusal.TheVariants.{Unavailable}
@@ -19,6 +19,10 @@ use Rattle.fax_core.specs.Settings.{Settings}
 use Rattle.fax_core.specs.State.{calls_to, state}
 use Rattle.fax_core.specs.Submission.{recorded}
 use Rattle.fax_store.specs.Job.{IsChange, lines_of, with_expired, with_its_lines}
+use Rattle.fax_core.specs.Stamp.{stamp}
+use Rattle.fax_core.specs.Times.{has_ended}
+use Rattle.fax_store.specs.Times.{is_over_as, with_ends}
+use Rattle.fax_decide.proofs.EndLemmas.{stamp_put}
 use Rattle.fax_decide.specs.Decision.{IsTaken}
 use Rattle.fax_decide.specs.Records.{job_in}
 use Rattle.fax_core.specs.declared.ask.JobAsk.{JobAsk}
@@ -62,17 +66,19 @@ module _ (m : Queue) (t : ℕ) (c : Change) (f g : JobFields) (there : job_numbe
         totpages = ap (λ (x : Job). x.totpages) same ∙ sym (ap (λ (x : Job). x.totpages) whole_changed);
       }
 
-  -- it is taken, and its state is told
-  pub job_taken : (s : Settings) (reply : Response) → reply ≡ accepted_response (Replied (Stands g.job (state s m t (job_of g))))
+  -- it is taken, and its state is told, where it wasn't over before
+  pub job_taken : has_ended f.phase ≡ false → (s : Settings) (reply : Response) → reply ≡ accepted_response (Replied (Stands g.job (state s m t (job_of g))))
       → IsTaken (machine.changed s (aged t m) t (Ok (changed c (job_in (aged t m) f)))) m t (ChangedJob g) reply
-  job_taken s reply replied =
+  job_taken goes s reply replied =
       let whole = job_in (aged t m) g in
       let lines = lines_of (job_numbered g.job (aged t m)) in record {
         suits = order_kept;
         within = tt;
         told = Stands g.job (state s m t (job_of g));
-        taken = ap (λ (x : Job). Taken (with_job x (aged t m)) (Stands x.number (state s (with_job x (aged t m)) t x))) (sym whole_changed)
-            ∙ ap (λ (n : ℕ). Taken (with_job whole (aged t m)) (Stands g.job n))
+        taken = ap (λ (x : Job). Taken (stamp t (aged t m) (with_job x (aged t m))) (Stands x.number (state s (with_job x (aged t m)) t x))) (sym whole_changed)
+            ∙ ap (λ (q : Queue). Taken q (Stands g.job (state s (with_job whole (aged t m)) t whole)))
+            (stamp_put t (aged t m) (with_job whole (aged t m)) (job_in (aged t m) f) whole refl old_there goes)
+            ∙ ap (λ (n : ℕ). Taken (with_ends t (is_over_as whole) (with_job whole (aged t m))) (Stands g.job n))
             (state_changed s m t whole (job_in (aged t m) f) old_there (ap (λ (x : Job). x.dial) whole_changed)
             ∙ state_lined lines g.phase (job_of g) ((s.rule g.dial).hours t) (calls_to g.dial m) (s.rule g.dial).calls t);
         replied = replied;

@@ -4,8 +4,10 @@ mod DecisionLemmas
 mod LinesLemmas
 mod RecordLemmas
 mod CallLemmas
+mod EndLemmas
 mod JobLemmas
 mod NewJobLemmas
+mod TimesLemmas
 mod ViewLemmas
 mod NewestLemmas
 mod ReportLemmas

@@ -1,5 +1,5 @@
 -- What is decided of a new job, which is submitted or brought in.
-use Rattle.std.proofs.Common.{◌≡◌, ℕ, ◌+◌, ◌≤◌, ◌<◌, Bool, true, false, cond, eqb, List, Result, Ok, Err, IfOk, IsOk, refl, sym, ap, subst, ◌∙◌, arith, is_some, nat_lt, not, ◌&&◌}
+use Rattle.std.proofs.Common.{◌≡◌, ℕ, ◌+◌, ◌≤◌, ◌<◌, Bool, true, false, cond, eqb, List, Result, Ok, Err, IfOk, IsOk, refl, sym, ap, ap₂, subst, ◌∙◌, arith, is_some, nat_lt, not, ◌&&◌}
 use Rattle.fax_value.specs.Limits.{last_job}
 use Rattle.fax_job.specs.declared.job.JobFields.{JobFields}
 use Rattle.fax_job.specs.declared.refusal.Refusal.{Refusal}
@@ -31,7 +31,10 @@ use Rattle.fax_decide.specs.declared.fault.Fault.{Fault}
 use Rattle.fax_decide.specs.declared.effect.Effect.TheVariants.{NewJob}
 use Rattle.fax_decide.proofs.CallLemmas.{calls_aged}
 use Rattle.fax_decide.proofs.DecisionLemmas.{refused_as}
-use Rattle.fax_decide.proofs.FreeLemmas.{job_placed}
+use Rattle.fax_core.proofs.StampLemmas.{stamp_new}
+use Rattle.fax_core.specs.Stamp.{came}
+use Rattle.fax_core.specs.declared.times.Times.{Times}
+use Rattle.fax_decide.proofs.FreeLemmas.{job_placed, times_placed}
 use Rattle.fax_decide.proofs.JobLemmas.{recorded_as}
 use Rattle.fax_decide.proofs.RecordLemmas.{has_job}
 use Rattle.fax_job.specs.declared.import.Import.{Import}
@@ -48,8 +51,11 @@ new_taken m t f meta told reply sound these next limit replied = record {
   suits = these;
   within = let left : m.next_job < last_job + 1 = omega (arith, next, limit) in left;
   told = told;
-  taken = ap (λ (js : List Job). Taken (record (aged t m) { jobs = js; next_job = m.next_job + 1 }) told)
-      (sym (job_placed (aged t m) (job_of f) (aged_sound t m sound) next));
+  taken =
+      let now = aged_sound t m sound in
+      ap (λ (n : Queue). Taken n told) (stamp_new t (aged t m) (job_of f))
+      ∙ ap₂ (λ (js : List Job) (xs : List Times). Taken (record (aged t m) { jobs = js; times = xs; next_job = m.next_job + 1 }) told)
+      (sym (job_placed (aged t m) (job_of f) now next)) (sym (times_placed (aged t m) (came t (job_of f)) now next));
   replied = replied;
 }
 

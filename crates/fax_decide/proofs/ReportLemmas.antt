@@ -25,7 +25,12 @@ use Rattle.fax_core.specs.Sound.{Sound}
 use Rattle.fax_core.specs.State.{calls_to, state}
 use Rattle.fax_core.specs.Submission.{recorded}
 use Rattle.fax_core.proofs.FitsLemmas.{record_again}
-use Rattle.fax_core.proofs.KeepLemmas.{numbered_job, numbered_grant}
+use Rattle.fax_core.proofs.KeepLemmas.{numbered_job, numbered_grant, same_job}
+use Rattle.fax_core.proofs.StepLemmas.{aged_sound}
+use Rattle.fax_core.specs.Stamp.{stamp}
+use Rattle.fax_core.specs.Times.{has_ended}
+use Rattle.fax_store.specs.Times.{is_over_as, with_ends}
+use Rattle.fax_decide.proofs.EndLemmas.{stamp_put}
 use Rattle.fax_store.specs.Grant.{IsSameGrant, with_shut}
 use Rattle.fax_store.specs.Job.{lines_of, with_change, with_expired}
 use Rattle.fax_store.specs.Meta.{with_clock}
@@ -41,14 +46,22 @@ use Rattle.fax_decide.proofs.RecordLemmas.{found_itself}
 use Rattle.fax_core.proofs.DecisionLemmas.{not_refused}
 use Rattle.fax_decide.proofs.DecisionLemmas.{refused_as}
 
+-- the job of an open grant isn't over
+pub goes_there : (m : Queue) (t : ℕ) (f : JobFields) (g : Grant) → Sound m → AreThere m t f g → g.is_open ≡ true → has_ended f.phase ≡ false
+goes_there m t f g sound there is_open =
+    let held = (aged_sound t m sound).held g.number g (there.grant_there, is_open) in
+    let job : job_numbered g.job (aged t m) ≡ Some (job_in (aged t m) f) = subst (λ (n : ℕ). job_numbered n (aged t m) ≡ Some (job_in (aged t m) f)) (sym there.of_job) there.job_there in
+    let same : held.0 ≡ job_in (aged t m) f = same_job (aged t m) g.job held.0 (job_in (aged t m) f) held.1 job in
+    ap has_ended (sym (ap (λ (j : Job). j.phase) same) ∙ held.2.phase)
+
 -- ---- reports that leave the grant open
 
 -- job and grant are put in their places, and the reply to the report is told
 pub report_taken : (m : Queue) (t : ℕ) (c : Change) (f g : JobFields) (before grant : Grant) (reply_to : Queue → JobAndGrant → Reply) (reply : Response)
-    → AreThere m t f before → IsSameGrant before grant → grant.number ≡ before.number → grant.confirmed ≤ most_pages → Ok (job_of g) ≡ recorded (Ok (changed c (job_of f)))
+    → AreThere m t f before → IsSameGrant before grant → grant.number ≡ before.number → grant.confirmed ≤ most_pages → Ok (job_of g) ≡ recorded (Ok (changed c (job_of f))) → has_ended f.phase ≡ false
     → ((n : Queue) → reply ≡ accepted_response (Replied (reply_to n (record { job = job_in (aged t m) g; grant = grant }))))
     → IsTaken (reported (aged t m) reply_to (job_in (aged t m) f) (Ok (record { job = changed c (job_in (aged t m) f); grant = grant }))) m t (Reported g grant) reply
-report_taken m t c f g before grant reply_to reply there same number few after replied = record {
+report_taken m t c f g before grant reply_to reply there same number few after goes replied = record {
   suits = (
     order_kept m t c f g there.job_there after,
     λ h is.
@@ -57,7 +70,9 @@ report_taken m t c f g before grant reply_to reply there same number few after r
   );
   within = few;
   told = reply_to (both (job_in (aged t m) g)) (record { job = job_in (aged t m) g; grant = grant });
-  taken = ap (λ (x : Job). Taken (both x) (reply_to (both x) (record { job = x; grant = grant }))) (sym (whole_changed m t c f g there.job_there after));
+  taken = ap (λ (x : Job). Taken (stamp t (aged t m) (both x)) (reply_to (both x) (record { job = x; grant = grant }))) (sym (whole_changed m t c f g there.job_there after))
+      ∙ ap (λ (q : Queue). Taken q (reply_to (both (job_in (aged t m) g)) (record { job = job_in (aged t m) g; grant = grant })))
+      (stamp_put t (aged t m) (both (job_in (aged t m) g)) (job_in (aged t m) f) (job_in (aged t m) g) refl (old_there m t c f g there.job_there after) goes);
   replied = replied (both (job_in (aged t m) g));
 }
   where
@@ -75,12 +90,14 @@ outcome_taken s m t c f g grant reply sound there is_open after replied = record
   suits = order_kept m t c f g there.job_there after;
   within = tt;
   told = Stands g.job (state_with s (job_of g) calls t);
-  taken = ap (λ (x : Job). Taken (both x) (Stands x.number (state s (both x) t x))) (sym one)
-      ∙ ap (λ (n : ℕ). Taken (both whole) (Stands g.job n))
+  taken = ap (λ (x : Job). Taken (stamp t (aged t m) (both x)) (Stands x.number (state s (both x) t x))) (sym one)
+      ∙ ap (λ (q : Queue). Taken q (Stands g.job (state s (both whole) t whole)))
+      (stamp_put t (aged t m) (both whole) (job_in (aged t m) f) whole refl (old_there m t c f g there.job_there after) (goes_there m t f grant sound there is_open))
+      ∙ ap (λ (n : ℕ). Taken (with_ends t (is_over_as whole) (both whole)) (Stands g.job n))
       (state_ended s m t whole (job_in (aged t m) f) grant sound (old_there m t c f g there.job_there after) (ap (λ (x : Job). x.dial) one)
       (there.of_job ∙ sym (ap (λ (x : Job). x.number) one)) there.grant_there is_open
       ∙ state_lined (lines_of (job_numbered g.job (aged t m))) g.phase (job_of g) ((s.rule g.dial).hours t) calls (s.rule g.dial).calls t)
-      ∙ ap (λ (o : Option Grant). Taken (with_clock t (with_shut o (with_change (job_of g) (with_expired t m))))
+      ∙ ap (λ (o : Option Grant). Taken (with_clock t (with_shut o (with_change t (job_of g) (with_expired t m))))
       (Stands g.job (state_with s (job_of g) calls t))) (sym there.grant_there);
   replied = replied;
 }

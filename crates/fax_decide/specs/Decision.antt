@@ -1,8 +1,10 @@
--- What is decided of a request: the step of the machine.
+-- What is decided of a request: what it does to the queue as it is at t.
 use Rattle.std.specs.Prelude.{◌≡◌, ℕ}
 use Rattle.fax_job.specs.declared.refusal.Refusal.{Refusal}
 use Rattle.fax_ask.specs.Answer.{Replied}
 use Rattle.fax_ask.specs.Response.{Response, accepted_response, refused_response}
+use Rattle.fax_core.specs.Ageing.{aged}
+use Rattle.fax_core.specs.Machine.{stamped}
 use Rattle.fax_core.specs.Queue.{Queue}
 use Rattle.fax_core.specs.Reply as machine
 use Rattle.fax_core.specs.Reply.{Step}
@@ -12,12 +14,12 @@ use Rattle.fax_decide.specs.declared.effect.Effect.{Effect}
 use Rattle.fax_decide.specs.declared.decision.Decision.{Decision}
 use Rattle.fax_decide.specs.declared.decision.Decision.TheVariants.{Taken, Refused}
 
--- The step is taken: it leaves what the effect makes of the queue at t, and its reply is this. What is written then is within its limits.
+-- The step is taken: with the times of its jobs it leaves what the effect makes of the queue at t, and its reply is this. What is written then is within its limits.
 pub record IsTaken (step : Step) (m : Queue) (t : ℕ) (effect : Effect) (reply : Response) : Type 0 where
   pub suits : Suits effect (with_expired t m)
   pub within : IsWithin effect (with_expired t m)
   pub told : machine.Reply
-  pub taken : step ≡ machine.Taken (accepted t effect m) told
+  pub taken : stamped t (aged t m) step ≡ machine.Taken (accepted t effect m) told
   pub replied : reply ≡ accepted_response (Replied told)
 
 -- the step is refused, and its reply is this

@@ -1,11 +1,11 @@
--- What an accepted request changes in the queue, beside ageing it and setting the clock.
+-- What an accepted request changes in the queue at t, beside ageing it and setting the clock.
 use Rattle.std.specs.Prelude.{◌≡◌, ◌≤◌, ℕ, ⊤}
 use Rattle.fax_core.specs.Job.{job_of}
 use Rattle.fax_core.specs.Machine.{with_grant, with_mark}
 use Rattle.fax_core.specs.Queue.{Queue}
 use Rattle.fax_value.specs.Limits.{most_pages}
 use Rattle.fax_store.specs.Grant.{IsNewGrant, IsReport, with_closed, with_one_more_grant}
-use Rattle.fax_store.specs.Job.{IsChange, IsNewJob, with_change, with_expired, with_one_more_job}
+use Rattle.fax_store.specs.Job.{IsChange, IsNewJob, with_change, with_expired, with_one_more_job, with_set}
 use Rattle.fax_store.specs.Meta.{IsGrantLeft, IsJobLeft, with_clock}
 use Rattle.fax_tables.specs.Grant.{IsOpenGrant}
 use Rattle.fax_tables.specs.Meta.{meta_of}
@@ -13,15 +13,15 @@ use Rattle.fax_tables.specs.Tables.{HasJob}
 use Rattle.fax_decide.specs.declared.effect.Effect.{Effect}
 use Rattle.fax_decide.specs.declared.effect.Effect.TheVariants.{Nothing, NewJob, ChangedJob, Marked, NewGrant, Reported, Closed}
 
--- The queue afterwards. The extra lines of a job that was there stay as they are.
-abbrev pub effected : Effect → Queue → Queue
-effected Nothing m = m
-effected (NewJob job meta) m = with_one_more_job (job_of job) m
-effected (ChangedJob job) m = with_change (job_of job) m
-effected (Marked modem down) m = with_mark modem down m
-effected (NewGrant job grant) m = with_one_more_grant grant (with_change (job_of job) m)
-effected (Reported job grant) m = with_grant grant (with_change (job_of job) m)
-effected (Closed job grant) m = with_closed grant (with_change (job_of job) m)
+-- The queue afterwards. The extra lines of a job that was there stay as they are. A new job comes with the clock.
+abbrev pub effected : ℕ → Effect → Queue → Queue
+effected t Nothing m = m
+effected t (NewJob job meta) m = with_clock t (with_one_more_job t (job_of job) m)
+effected t (ChangedJob job) m = with_change t (job_of job) m
+effected t (Marked modem down) m = with_mark modem down m
+effected t (NewGrant job grant) m = with_one_more_grant grant (with_change t (job_of job) m)
+effected t (Reported job grant) m = with_grant grant (with_change t (job_of job) m)
+effected t (Closed job grant) m = with_closed grant (with_change t (job_of job) m)
 
 -- a new job knows the clock and the next numbers, a changed one keeps its order, and a grant that was reported on what it was given
 abbrev pub Suits : Effect → Queue → Type 0
@@ -30,7 +30,7 @@ Suits (NewJob job meta) m = meta ≡ meta_of m
 Suits (ChangedJob job) m = IsChange (job_of job) m
 Suits (Marked modem down) m = ⊤
 Suits (NewGrant job grant) m = IsChange (job_of job) m
-Suits (Reported job grant) m = IsChange (job_of job) m × IsReport grant (with_change (job_of job) m)
+Suits (Reported job grant) m = IsChange (job_of job) m × IsReport grant m
 Suits (Closed job grant) m = IsChange (job_of job) m
 
 -- A new job or grant has a number that none has. Neither the modem nor the job of a new grant holds one, and its job is there.
@@ -39,7 +39,7 @@ IsFree Nothing m = ⊤
 IsFree (NewJob job meta) m = IsNewJob (job_of job) m
 IsFree (ChangedJob job) m = ⊤
 IsFree (Marked modem down) m = ⊤
-IsFree (NewGrant job grant) m = IsNewGrant grant (with_change (job_of job) m) × HasJob (with_change (job_of job) m) grant
+IsFree (NewGrant job grant) m = IsNewGrant grant m × HasJob (with_set (job_of job) m) grant
 IsFree (Reported job grant) m = ⊤
 IsFree (Closed job grant) m = ⊤
 
@@ -61,4 +61,4 @@ pub record IsWritable (effect : Effect) (m : Queue) : Type 0 where
 
 -- the queue is aged, the change is made, and the clock is set
 abbrev pub accepted : ℕ → Effect → Queue → Queue
-accepted t effect m = with_clock t (effected effect (with_expired t m))
+accepted t effect m = with_clock t (effected t effect (with_expired t m))

@@ -22,7 +22,7 @@ module _ {S : Type 0} (g : _) where
     pub opens : OnOk result (StaysOpen (shown g old) (shown g new))
     pub found : (m : Queue) (k : Ledger) → Means (shown g old) m k → Serves (shown g new) → P m
 
-  -- So is a request decided. Of a sound queue with this clock and these next numbers the decision is this step at t, and where the request was read, memory or the store alone leave none.
+  -- So is a request decided. Of a sound queue with this clock and these next numbers the decision is what it does to the queue at t, and where the request was read, memory or the store alone leave none.
   pub record DecidesBy (old new : Store S) (result : Result Decision Fault) (meta : Meta) (t : ℕ) (step : Queue → Step) (IsRead : Type 0) : Type 0 where
     pub leaves : Looks g old new
     pub opens : OnOk result (StaysOpen (shown g old) (shown g new))

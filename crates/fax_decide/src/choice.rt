@@ -19,6 +19,7 @@ ghost use Rattle.fax_core.specs.Reply.{HeldGrant};
 ghost use Rattle.fax_core.specs.Settings.{Settings};
 ghost use Rattle.fax_core.specs.Sound.{Sound};
 ghost use Rattle.fax_core.specs.State.{calls_to};
+ghost use Rattle.fax_core.specs.Times.{has_ended};
 ghost use Rattle.fax_core.specs.declared.grants.Grant.{Grant as OneGrant};
 ghost use Rattle.fax_job.specs.declared.job.Phase.TheVariants.{Waiting};
 ghost use Rattle.fax_job.specs.declared.refusal.Refusal.TheVariants.{ModemBusy};
@@ -332,7 +333,7 @@ fn give(
 /// The job is changed, and the modem is told of its grant.
 fn given(alloc: Global, job: Job, change: Change, grant: Grant) -> Result<Decision, Fault>
     ensures { (m : Queue) (t : ℕ) → Sound m → job_numbered job.job (aged t m) ≡ Some (job_of job)
-        → grant.number ≡ m.next_grant → IsGrantOf job grant → KeepsRecord change job
+        → grant.number ≡ m.next_grant → has_ended job.phase ≡ false → IsGrantOf job grant → KeepsRecord change job
         → OrNoAnswer result (Decides (given (aged t m) (decided_with grant (job_of job) (Ok change))) m t) }
 {
     let job = applied(change, job)?;

@@ -44,7 +44,7 @@ impl Drop for Effect {
 }
 
 impl Effect {
-    /// Makes the change and sets the clock. For a new job the two are one statement.
+    /// Makes the change at `clock`, and sets the clock. For a new job the two are one statement.
     ///
     /// # Errors
     ///
@@ -54,38 +54,38 @@ impl Effect {
         ensures leaves { Follows S.Store work.old work.new }
         ensures fails { OnErr result (work.new.failed ≡ true) }
         ensures changes { BecomesWhere S.Store work.old work.new (Suits self.now)
-            (λ m. with_clock clock (effected self.now m)) (λ k. k) }
+            (λ m. with_clock clock (effected clock self.now m)) (λ k. k) }
         ensures cause { FailsOnly S.Store work.old work.new result (λ m k. IsWritable self.now m) }
     {
         if let Effect::NewJob { job, meta } = self {
             return work.put_next_job(job, *meta, clock);
         }
-        self.change(work)?;
+        self.change(work, clock)?;
         work.set_clock(clock)
     }
 
-    /// Makes the change, by at most two calls of the work.
-    fn change<S: Alter>(&self, work: &mut Work<'_, S>) -> Result<(), StoreFault>
+    /// Makes the change at `t`, by at most two calls of the work. A new job sets the clock.
+    fn change<S: Alter>(&self, work: &mut Work<'_, S>, t: Moment) -> Result<(), StoreFault>
         ensures leaves { Follows S.Store work.old work.new }
         ensures fails { OnErr result (work.new.failed ≡ true) }
-        ensures changes { BecomesWhere S.Store work.old work.new (Suits self.now) (effected self.now) (λ k. k) }
+        ensures changes { BecomesWhere S.Store work.old work.new (Suits self.now) (effected t self.now) (λ k. k) }
         ensures cause { FailsOnly S.Store work.old work.new result (λ m k. IsWritable self.now m) }
     {
         match self {
             Effect::Nothing => Ok(()),
-            Effect::NewJob { job, meta: _ } => work.put_job(job),
-            Effect::ChangedJob(job) => work.put_change(job),
+            Effect::NewJob { job, meta } => work.put_next_job(job, *meta, t),
+            Effect::ChangedJob(job) => work.put_change(job, t),
             Effect::Marked { modem, down } => work.set_down(modem.as_str(), *down),
             Effect::NewGrant { job, grant } => {
-                work.put_change(job)?;
+                work.put_change(job, t)?;
                 work.put_grant(grant)
             }
             Effect::Reported { job, grant } => {
-                work.put_change(job)?;
+                work.put_change(job, t)?;
                 work.put_report(grant)
             }
             Effect::Closed { job, grant } => {
-                work.put_change(job)?;
+                work.put_change(job, t)?;
                 work.close_grant(*grant)
             }
         }

@@ -1,6 +1,6 @@
 //! A client's requests on a job.
 
-ghost use Rattle.std.specs.Prelude.{◌≡◌, Some, Ok, IfOk};
+ghost use Rattle.std.specs.Prelude.{◌≡◌, false, Some, Ok, IfOk};
 ghost use Rattle.fax_ask.specs.Answer.{Replied};
 ghost use Rattle.fax_ask.specs.Response.{accepted_response};
 ghost use Rattle.fax_core.specs.Ageing.{aged};
@@ -11,6 +11,7 @@ ghost use Rattle.fax_core.specs.Machine.{changed as change_step, on_job};
 ghost use Rattle.fax_core.specs.Queue.{job_numbered};
 ghost use Rattle.fax_core.specs.Reply.{Stands};
 ghost use Rattle.fax_core.specs.State.{state as job_state};
+ghost use Rattle.fax_core.specs.Times.{has_ended};
 ghost use Rattle.fax_decide.specs.Decision.{Decides};
 ghost use Rattle.fax_decide.specs.Fault.{OnlyNoAnswer, OrNoAnswer};
 ghost use Rattle.fax_decide.specs.Looking.{Consults};
@@ -75,7 +76,7 @@ fn changed<S: Alter>(
     t: Moment,
 ) -> Result<Decision, Fault>
     ensures { Consults S.Store store.old store.new result (λ m.
-        (job_numbered job.job (aged t m) ≡ Some (job_in (aged t m) job) → IfOk result (Decides
+        (job_numbered job.job (aged t m) ≡ Some (job_in (aged t m) job) → has_ended job.phase ≡ false → IfOk result (Decides
         (change_step (settings_of office.now.setup office.now.controls) (aged t m) t
         (Ok (changed_by change (job_in (aged t m) job)))) m t)) × (KeepsRecord change job → OnlyNoAnswer result)) }
 {

@@ -22,6 +22,7 @@ mod reports;
 mod request;
 mod state;
 mod submission;
+mod times;
 mod view;
 
 pub use decision::Decision;

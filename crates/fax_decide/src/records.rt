@@ -17,7 +17,7 @@ use fax_store::{Store, StoreFault};
 use sqlite::Alter;
 
 /// The number, where a job may have it.
-fn job_number(number: u64) -> Option<u32>
+pub(crate) fn job_number(number: u64) -> Option<u32>
     ensures { MatchOption result (last_job < number) (λ found. (found ≡ number) × number ≤ last_job) }
 {
     if number > u64::from(LAST_JOB) {

@@ -14,6 +14,7 @@ ghost use Rattle.fax_core.specs.Queue.{Queue, grant_numbered};
 ghost use Rattle.fax_core.specs.Reply.{NoKeys, Pages, Refused, Stands};
 ghost use Rattle.fax_core.specs.Sound.{Sound};
 ghost use Rattle.fax_core.specs.State.{calls_to};
+ghost use Rattle.fax_core.specs.Times.{has_ended};
 ghost use Rattle.fax_core.specs.declared.grants.Grant.{Grant as GrantOf};
 ghost use Rattle.fax_dest.specs.Setup.{delay_of};
 ghost use Rattle.fax_value.specs.Limits.{most_pages};
@@ -108,7 +109,7 @@ fn decide_call(
     t: Moment,
 ) -> Result<Decision, Fault>
     ensures decided { (m : Queue) → AreThere m t job grant → ArePagesWithin grant
-        → (grant.is_open ≡ true → fits job (Some grant) ≡ true)
+        → (grant.is_open ≡ true → (fits job (Some grant) ≡ true) × (has_ended job.phase ≡ false))
         → OrNoAnswer result (Decides (reported (aged t m) (call_reply t) (job_in (aged t m) job)
         (call_of said (job_in (aged t m) job) grant)) m t) }
     ensures closed { grant.is_open ≡ false → IsOk result }
@@ -127,7 +128,8 @@ fn called(
     t: Moment,
 ) -> Result<Decision, Fault>
     ensures { (m : Queue) (before : GrantOf) → AreThere m t job before → IsSameGrant before grant
-        → grant.number ≡ before.number → grant.confirmed ≤ most_pages → KeepsRecord change job
+        → grant.number ≡ before.number → grant.confirmed ≤ most_pages → has_ended job.phase ≡ false
+        → KeepsRecord change job
         → OrNoAnswer result (Decides (reported (aged t m) (call_reply t) (job_in (aged t m) job)
         (Ok (record { job = changed change (job_in (aged t m) job); grant = grant }))) m t) }
 {
@@ -146,7 +148,7 @@ fn decide_page(
     t: Moment,
 ) -> Result<Decision, Fault>
     ensures decided { (m : Queue) → AreThere m t job grant → ArePagesWithin grant
-        → (grant.is_open ≡ true → fits job (Some grant) ≡ true)
+        → (grant.is_open ≡ true → (fits job (Some grant) ≡ true) × (has_ended job.phase ≡ false))
         → OrNoAnswer result (Decides (reported (aged t m) (page_reply t) (job_in (aged t m) job)
         (page_of said (job_in (aged t m) job) grant)) m t) }
     ensures closed { grant.is_open ≡ false → IsOk result }
@@ -190,7 +192,8 @@ fn confirmed(
 ) -> Result<Decision, Fault>
     ensures { (m : Queue) (before : GrantOf) → AreThere m t job before → IsSameGrant before grant
         → grant.number ≡ before.number → 1 ≤ before.first_page
-        → grant.first_page + grant.confirmed ≡ length (changed change (job_of job)).sent + 1 → KeepsRecord change job
+        → grant.first_page + grant.confirmed ≡ length (changed change (job_of job)).sent + 1 → has_ended job.phase ≡ false
+        → KeepsRecord change job
         → OrNoAnswer result (Decides (reported (aged t m) (page_reply t) (job_in (aged t m) job)
         (Ok (record { job = changed change (job_in (aged t m) job); grant = grant }))) m t) }
 {

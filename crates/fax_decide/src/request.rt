@@ -1,6 +1,7 @@
 //! Any request: what is decided of it.
 
-ghost use Rattle.fax_core.specs.Machine.{step as step_of};
+ghost use Rattle.fax_core.specs.Ageing.{aged};
+ghost use Rattle.fax_core.specs.Machine.{act};
 ghost use Rattle.fax_decide.specs.Looking.{DecidesBy};
 ghost use Rattle.fax_decide.specs.Read.{IsRead};
 ghost use Rattle.fax_decide.specs.Settings.{settings_of};
@@ -35,7 +36,7 @@ pub fn decide<S: Alter>(
     t: Moment,
 ) -> Result<Decision, Fault>
     ensures { DecidesBy S.Store store.old store.new result meta.now t
-        (λ m. step_of (settings_of office.now.setup office.now.controls) m t ask) (IsRead ask) }
+        (λ m. act (settings_of office.now.setup office.now.controls) (aged t m) t ask) (IsRead ask) }
 {
     match ask {
         Ask::Submission(order) => decide_submission(office, alloc, order, meta, t),

@@ -1,4 +1,4 @@
-//! What a client sees of the queue: a job, the listing of all jobs or of the newest, or the modems.
+//! What a client sees of the queue: a job, its times, the listing of all jobs or of the newest, or the modems.
 
 ghost use Rattle.std.specs.Prelude.{◌≡◌, [], ◌∷◌, ◌++◌, IfOk, OnOk, map};
 ghost use Rattle.std.specs.List.Sorted.{IsStrictlyIncreasing};
@@ -22,6 +22,7 @@ use crate::modem_list::show_modems;
 use crate::office::Office;
 use crate::records::job_at;
 use crate::state::state_of;
+use crate::times::show_times;
 use fax_ask::{Answer, Reply, View};
 use fax_core::aged_job;
 use fax_job::{Job, Moment, Refusal, write_lines};
@@ -53,6 +54,7 @@ pub fn show<S: Alter>(
 {
     match asked {
         View::Job { job } => show_job(store, office, alloc, job, t),
+        View::Times { job } => show_times(store, alloc, job, t),
         View::Jobs => show_jobs(store, office, alloc, t),
         View::Newest => show_newest(store, office, alloc, t),
         View::Modems => show_modems(store, office, alloc),

@@ -20,7 +20,8 @@ use Rattle.fax_ask.specs.declared.request.Action.{Action}
 use Rattle.fax_ask.specs.declared.request.Action.TheVariants.{Suspend, Resume, Kill, Alter}
 use Rattle.fax_core.specs.Ask.{IsLawfulAsk}
 use Rattle.fax_core.specs.Ledger.{Ledger, kept_for, IsKeptStatus}
-use Rattle.fax_core.specs.Machine.{step}
+use Rattle.fax_core.specs.Ageing.{aged}
+use Rattle.fax_core.specs.Machine.{act}
 use Rattle.fax_core.specs.Queue.{Queue, Entry}
 use Rattle.fax_core.specs.Reply.{Brought, Reply, Submitted}
 use Rattle.fax_core.specs.Settings.{Settings}
@@ -114,11 +115,11 @@ kept_status (Brought job state) = inr refl
 kept_status other = inl refl
 
 -- so the reply to what is taken may be kept
-pub taken_status : (s : Settings) (m : Queue) (t : ℕ) (ask : Ask) (effect : Effect) (reply : Response) → IsTaken (step s m t ask) m t effect reply → IsKeptStatus reply.status
+pub taken_status : (s : Settings) (m : Queue) (t : ℕ) (ask : Ask) (effect : Effect) (reply : Response) → IsTaken (act s (aged t m) t ask) m t effect reply → IsKeptStatus reply.status
 taken_status s m t ask effect reply by = subst (λ (r : Response). IsKeptStatus r.status) (sym by.replied) (kept_status by.told)
 
 -- and what it changes may be written
-pub taken_writable : (s : Settings) (m : Queue) (t : ℕ) (ask : Ask) (effect : Effect) (reply : Response) → Sound m → IsLawfulAsk ask → IsTaken (step s m t ask) m t effect reply
+pub taken_writable : (s : Settings) (m : Queue) (t : ℕ) (ask : Ask) (effect : Effect) (reply : Response) → Sound m → IsLawfulAsk ask → IsTaken (act s (aged t m) t ask) m t effect reply
     → IsWritable effect (with_expired t m)
 taken_writable s m t ask effect reply sound lawful by =
     record { suits = by.suits; free = keys_free t effect m sound (step_sound s m _ t ask by.told sound lawful by.taken) by.within; within = by.within }

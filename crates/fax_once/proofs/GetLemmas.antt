@@ -1,7 +1,8 @@
 -- A GET asks for a view.
 use Rattle.std.proofs.Common.{◌≡◌, ◌∙◌, ℕ, Bool, true, false, List, [], ◌∷◌, Option, Some, None, refl, sym, subst, if◌then◌else◌}
-use Rattle.std.specs.Prelude.{MatchOption, codes, length, option_map, ◌==◌}
+use Rattle.std.specs.Prelude.{MatchOption, codes, length, option_and_then, option_map, ◌==◌}
 use Rattle.std.specs.Str.{bytes_eq}
+use Rattle.fax_value.specs.Number.{request_number_of}
 use Rattle.fax_core.specs.declared.ask.Ask.{Ask}
 use Rattle.fax_ask.specs.declared.method.Method.{Method}
 use Rattle.fax_ask.specs.declared.method.Method.TheVariants.{Get}
@@ -15,7 +16,7 @@ use Rattle.fax_ask.specs.Path.{parts}
 use Rattle.fax_job.specs.declared.refusal.Refusal.TheVariants.{NoRoute}
 use Rattle.fax_run.specs.Reading.{IsForRoute, IsReading, Post, Reading, Faulty, Posts}
 use Rattle.fax_run.specs.declared.arrival.Arrival.{Arrival}
-use Rattle.fax_ask.specs.Request.{grants_request, imports_request, job_request, job_view, jobs_request, modems_request, numbers_request, path_request, request_of, root_request}
+use Rattle.fax_ask.specs.Request.{grants_request, imports_request, job_request, job_times, job_view, jobs_request, modems_request, numbers_request, path_request, request_of, root_request}
 
 -- the request asks for a view
 IsShow : Request → Type 0
@@ -27,10 +28,21 @@ unfolding IsShow
 of_view None r e = absurd cc
 of_view (Some what) r e = (what, cc)
 
+-- a GET below a job's path shows its times
+of_times : (job : ℕ) (word : List ℕ) (named : Bool) (r : Request) → (if named then Some (Show (view.Times job)) else None) ≡ Some r → IsShow r
+unfolding IsShow
+of_times job word true r e = (view.Times job, cc)
+of_times job word false r e = absurd cc
+
+of_word : (number : Option ℕ) (word : List ℕ) (r : Request) → option_and_then (λ job. job_times job word) number ≡ Some r → IsShow r
+of_word None word r e = absurd cc
+of_word (Some job) word r e = of_times job word (bytes_eq word (codes "times")) r e
+
 -- a GET of a job's path shows it, or the newest
 of_job : (id : List ℕ) (rest : List (List ℕ)) (r : Request) → job_request Get id rest ≡ Some r → IsShow r
 of_job id [] r e = of_view (job_view id) r e
-of_job id (x ∷ xs) r e = absurd cc
+of_job id (word ∷ []) r e = of_word (request_number_of id) word r e
+of_job id (word ∷ x ∷ xs) r e = absurd cc
 
 -- a GET of the path of jobs shows them
 of_jobs : (rest : List (List ℕ)) (r : Request) → jobs_request Get rest ≡ Some r → IsShow r

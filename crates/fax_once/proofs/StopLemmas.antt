@@ -5,7 +5,8 @@ use Rattle.sqlite.specs.State.{State, HasCleanDisk}
 use Rattle.fax_job.specs.declared.refusal.Refusal.TheVariants.{Unavailable}
 use Rattle.fax_ask.specs.Response.{Response, refused_response}
 use Rattle.fax_core.specs.Clock.{decided_at}
-use Rattle.fax_core.specs.Machine.{step}
+use Rattle.fax_core.specs.Ageing.{aged}
+use Rattle.fax_core.specs.Machine.{act}
 use Rattle.fax_core.specs.Ledger.{Ledger, with_reply, entry}
 use Rattle.fax_core.specs.Queue.{Queue}
 use Rattle.fax_core.specs.Reply.{NoKeys}
@@ -76,7 +77,7 @@ then_stops a b c v w first served is next found may = elim (next found may) [
 
 -- what is taken makes the rows of the verdict
 pub taken_stops : (s : Settings) (a : Arrival) (m : Queue) (k : Ledger) (sender : Sender) (t : ℕ) (ask : Ask) (effect : Effect) (given : Option ℕ) (reply : Response) (old new : State)
-    → given ≡ given_by ask → IsSender a sender → (Serves old → t ≡ decided_at m.clock a.moment) → (Serves old → IsTaken (step s m t ask) m t effect reply)
+    → given ≡ given_by ask → IsSender a sender → (Serves old → t ≡ decided_at m.clock a.moment) → (Serves old → IsTaken (act s (aged t m) t ask) m t effect reply)
     → MayLeave old new (accepted t effect m) (with_reply (entry sender.client.now sender.number (said_of a) reply.status reply.body) (without sender.client.now given k))
     → StopsBy old new (decided_new s m k (post_of a sender.number ask))
 taken_stops s a m k sender t ask effect given reply old new gives_so from now by leaves found may =
@@ -85,7 +86,7 @@ taken_stops s a m k sender t ask effect given reply old new gives_so from now by
       | inr made ↦ inr (made.0, rows (now made.0) (by made.0) made.1)
     ]
   where
-    rows : t ≡ decided_at m.clock a.moment → IsTaken (step s m t ask) m t effect reply
+    rows : t ≡ decided_at m.clock a.moment → IsTaken (act s (aged t m) t ask) m t effect reply
         → RowsFound found (accepted t effect m) (with_reply (entry sender.client.now sender.number (said_of a) reply.status reply.body) (without sender.client.now given k))
         → AreMadeBy (decided_new s m k (post_of a sender.number ask)) found
     rows at taken has =

@@ -14,7 +14,8 @@ use Rattle.fax_core.specs.declared.ask.Ask.{Ask}
 use Rattle.fax_core.specs.declared.ask.Ask.TheVariants as machine
 use Rattle.fax_core.specs.declared.ask.Ask.TheVariants.{GiveUp}
 use Rattle.fax_core.specs.Clock.{decided_at}
-use Rattle.fax_core.specs.Machine.{step}
+use Rattle.fax_core.specs.Ageing.{aged}
+use Rattle.fax_core.specs.Machine.{act, stamped, step}
 use Rattle.fax_core.specs.Ledger.{Ledger, greater, with_reply, entry, kept_for, is_through}
 use Rattle.fax_core.specs.Queue.{Queue, Entry}
 use Rattle.fax_core.specs.Reply.{NoKeys}
@@ -163,15 +164,15 @@ decided_is s a m k number t ask now = ap (λ (u : ℕ). stepped (post_of a numbe
 
 -- what is refused is told
 pub refused_leaves : (s : Settings) (a : Arrival) (m : Queue) (k : Ledger) (sender : Sender) (t : ℕ) (ask : Ask) (reply : Response) (store : State)
-    → t ≡ decided_at m.clock a.moment → IsRefusedBy (step s m t ask) reply → Means store m k → Leaves m k reply store (decided_new s m k (post_of a sender.number ask))
+    → t ≡ decided_at m.clock a.moment → IsRefusedBy (act s (aged t m) t ask) reply → Means store m k → Leaves m k reply store (decided_new s m k (post_of a sender.number ask))
 refused_leaves s a m k sender t ask reply store now by rests =
     subst (Leaves m k reply store)
-    (ap (stepped (post_of a sender.number ask) k) (sym by.refused) ∙ decided_is s a m k sender.number t ask now)
+    (ap (stepped (post_of a sender.number ask) k) (sym (ap (stamped t (aged t m)) by.refused)) ∙ decided_is s a m k sender.number t ask now)
     (by.replied, rests)
 
 -- what is taken is accepted, and leaves a sound queue
 taken_leaves : (s : Settings) (a : Arrival) (m : Queue) (k : Ledger) (sender : Sender) (t : ℕ) (ask : Ask) (effect : Effect) (given : Option ℕ) (reply : Response) (store : State)
-    → given ≡ given_by ask → Sound m → IsLawfulAsk ask → IsSender a sender → t ≡ decided_at m.clock a.moment → IsTaken (step s m t ask) m t effect reply
+    → given ≡ given_by ask → Sound m → IsLawfulAsk ask → IsSender a sender → t ≡ decided_at m.clock a.moment → IsTaken (act s (aged t m) t ask) m t effect reply
     → Serves store → IsAtRest store (accepted t effect m) (with_reply (entry sender.client.now sender.number (said_of a) reply.status reply.body) (without sender.client.now given k))
     → Leaves m k reply store (decided_new s m k (post_of a sender.number ask))
 taken_leaves s a m k sender t ask effect given reply store gives_so sound lawful from now by serves rests =
@@ -187,7 +188,7 @@ taken_leaves s a m k sender t ask effect given reply store gives_so sound lawful
 -- what is known of the decision, and what its acceptance leaves
 pub accepted_leaves : {E : Type 0} (result : Result Response E) (s : Settings) (a : Arrival) (m : Queue) (k : Ledger) (sender : Sender) (t : ℕ) (ask : Ask) (effect : Effect) (given : Option ℕ) (reply : Response) (old new : State)
     → given ≡ given_by ask → Sound m → IsLawfulAsk ask → IsSender a sender
-    → (Serves old → t ≡ decided_at m.clock a.moment) → (Serves old → IsTaken (step s m t ask) m t effect reply)
+    → (Serves old → t ≡ decided_at m.clock a.moment) → (Serves old → IsTaken (act s (aged t m) t ask) m t effect reply)
     → OnOk result (Serves new → Serves old) → OnOk result (HasCleanDisk new → Serves new)
     → MatchResult result (λ told. (told ≡ reply) × Means new (accepted t effect m) (with_reply (entry sender.client.now sender.number (said_of a) reply.status reply.body) (without sender.client.now given k))) (λ _. Means new m k)
     → HasCleanDisk new → LeavesBy m k result new (decided_new s m k (post_of a sender.number ask))

@@ -22,6 +22,7 @@ use Rattle.fax_core.proofs.ImportLemmas.{bring_counts}
 use Rattle.fax_core.proofs.StepLemmas.{Best_to, GivenTo, None_to, aged_sound, given_is, taken_same}
 use Rattle.fax_run.proofs.MoveLemmas.{on_grant_told}
 use Rattle.fax_run.specs.Counts.{brings, came_in, no_counters}
+use Rattle.fax_core.proofs.TimesLemmas.{by_stamp, stamped_taken}
 
 -- the request is an import
 abbrev pub is_import : Ask → Bool
@@ -90,7 +91,9 @@ act_brings s m n t (GiveUp upto) r h e x = ap (λ (q : Reply). brings q x) (sym 
 
 -- the same of a step, which ages the jobs first
 pub step_brings : (s : Settings) (m n : Queue) (t : ℕ) (ask : Ask) (r : Reply) → Sound m → step s m t ask ≡ Taken n r → (x : ℕ) → brings r x ≡ (is_import ask && eqb m.next_job x)
-step_brings s m n t ask r h e x = act_brings s (aged t m) n t ask r (aged_sound t m h) e x
+step_brings s m n t ask r h e x =
+    let d = stamped_taken t (aged t m) (act s (aged t m) t ask) n r e in
+    act_brings s (aged t m) d.0 t ask r (aged_sound t m h) d.1 x
 
 -- ---- and its number is used up
 
@@ -101,5 +104,7 @@ import_numbers s m n t rule (Err y) r e = cc
 
 -- the same of a step, which ages the jobs first
 pub step_numbers : (s : Settings) (m n : Queue) (t : ℕ) (ask : Ask) (r : Reply) → is_import ask ≡ true → step s m t ask ≡ Taken n r → m.next_job < n.next_job
-step_numbers s m n t (Bring i) r on e = import_numbers s (aged t m) n t (s.rule i.order.dial) (bring i (s.rule i.order.dial) m.next_job s.max_jobs t) r e
+step_numbers s m n t (Bring i) r on e =
+    by_stamp (λ n. m.next_job < n.next_job) t (aged t m) (act s (aged t m) t (Bring i)) n r e (λ k is.
+    import_numbers s (aged t m) k t (s.rule i.order.dial) (bring i (s.rule i.order.dial) m.next_job s.max_jobs t) r is)
 step_numbers s m n t other r on e = absurd cc

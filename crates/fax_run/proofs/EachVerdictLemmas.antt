@@ -25,13 +25,14 @@ use Rattle.fax_core.specs.Job.{Job}
 use Rattle.fax_core.specs.Laws.{RefusalsAreMet}
 use Rattle.fax_core.specs.Ageing.{aged}
 use Rattle.fax_core.specs.Ledger.{Ledger, kept_for, IsKeptStatus, IsLawfulEntry}
-use Rattle.fax_core.specs.Queue.{Queue, Entry, job_numbered}
+use Rattle.fax_core.specs.Queue.{Queue, Entry, job_numbered, times_numbered}
 use Rattle.fax_core.specs.Refusals.{may_meet}
 use Rattle.fax_core.specs.Reply.{NoKeys, Step as Stepped, Taken, Refused}
 use Rattle.fax_core.specs.Run.{decided}
 use Rattle.fax_core.specs.Settings.{Settings}
 use Rattle.fax_core.specs.Sound.{Sound}
-use Rattle.fax_run.specs.View.{seen, viewed}
+use Rattle.fax_core.specs.declared.times.Times.{Times}
+use Rattle.fax_run.specs.View.{seen, times_viewed, viewed}
 use Rattle.fax_run.proofs.ReadingLemmas.{Cause, Of_body, Of_route, Of_sender, Says, Says_fault, Says_post, Says_view, says}
 use Rattle.fax_run.specs.Arrival.{digits_of, number_of}
 use Rattle.fax_run.specs.Laws.{HasVerdict, NoVerdictIsUnavailable}
@@ -158,10 +159,17 @@ module _ (accepted : AcceptedAre200Or201) (alone : OnlyUnavailableIs503) (met : 
   of_view q t None = λ e. absurd (let other = alone NoJob NoKeys e in cc)
   of_view q t (Some j) = other_number 200 (inl refl)
 
+  -- nor is one of its times
+  of_times : (o : Option Times) → IsOther (Told (times_viewed o))
+  unfolding IsOther
+  of_times None = λ e. absurd (let other = alone NoJob NoKeys e in cc)
+  of_times (Some x) = other_number 200 (inl refl)
+
   -- nor is any view
   of_sight : (q : Queue) (t : ℕ) (what : View) → IsOther (Told (seen s q t what))
   unfolding IsOther
   of_sight q t (sight.Job n) = of_view q t (job_numbered n q)
+  of_sight q t (sight.Times n) = of_times (times_numbered n q)
   of_sight q t sight.Jobs = other_number 200 (inl refl)
   of_sight q t sight.Newest = other_number 200 (inl refl)
   of_sight q t sight.Modems = other_number 200 (inl refl)

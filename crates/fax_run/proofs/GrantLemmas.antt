@@ -31,6 +31,8 @@ use Rattle.fax_core.proofs.StepLemmas.{Best_to, GivenTo, None_to, aged_sound, gi
 use Rattle.fax_run.proofs.OnceLemmas.{sound_after}
 use Rattle.fax_run.specs.Laws.{IsSameGrant, KeepsGrants, RunsKeepGrants}
 use Rattle.fax_run.specs.Run.{queue_after, step_of}
+use Rattle.fax_core.proofs.TimesLemmas.{by_stamp}
+use Rattle.fax_core.specs.Stamp.{stamp}
 
 -- ---- the same grant
 
@@ -184,7 +186,9 @@ act_grants s m n t (GiveUp upto) r h e = kept_all m n (ap (λ (q : Queue). q.gra
 
 -- ageing leaves the grants
 step_keeps_grants : (s : Settings) (m n : Queue) (t : ℕ) (ask : Ask) (r : Reply) → Sound m → step s m t ask ≡ Taken n r → KeepsGrants m n
-step_keeps_grants s m n t ask r h e = through m (aged t m) n (kept_all m (aged t m) refl) (act_grants s (aged t m) n t ask r (aged_sound t m h) e)
+step_keeps_grants s m n t ask r h e =
+    by_stamp (KeepsGrants m) t (aged t m) (act s (aged t m) t ask) n r e (λ k is.
+    through m k (stamp t (aged t m) k) (through m (aged t m) k (kept_all m (aged t m) refl) (act_grants s (aged t m) k t ask r (aged_sound t m h) is)) (kept_all k (stamp t (aged t m) k) refl))
 
 -- where a step keeps the grants where it is taken, it does in any case
 left_grants : (m : Queue) (x : Step) → ((n : Queue) (r : Reply) → x ≡ Taken n r → KeepsGrants m n) → KeepsGrants m (left_by m x)

@@ -33,6 +33,7 @@ use Rattle.fax_core.proofs.StepLemmas.{Best_to, GivenTo, None_to, aged_sound, gi
 use Rattle.fax_run.proofs.CountLemmas.{Same, aged_same, asked_same, brought_counters, counted_all, report_counted, submitted_none}
 use Rattle.fax_run.proofs.CountLemmas as count
 use Rattle.fax_run.specs.Counts.{came_in, counters_of, hands, reported}
+use Rattle.fax_core.proofs.TimesLemmas.{by_stamp}
 
 -- the grant that is found is of that job
 abbrev pub has_job : ℕ → Option Grant → Bool
@@ -300,14 +301,14 @@ act_moves s m n t (GiveUp upto) r h e =
 
 -- ageing moves no counter
 pub step_moves : (s : Settings) (m n : Queue) (t : ℕ) (ask : Ask) (r : Reply) → Sound m → step s m t ask ≡ Taken n r → Moved m n ask r
-step_moves s m n t ask r h e =
-    let moved = act_moves s (aged t m) n t ask r (aged_sound t m h) e in
+step_moves s m n t ask r h e = by_stamp (λ n. Moved m n ask r) t (aged t m) (act s (aged t m) t ask) n r e (λ k is.
+    let moved = act_moves s (aged t m) k t ask r (aged_sound t m h) is in
     record {
       jobs = λ x y found. by x y (moved.jobs x y found);
       numbers = moved.numbers;
       grants = moved.grants;
       given = moved.given;
-    }
+    })
   where
     by : (x : ℕ) (y : Job) → Became (aged t m) ask x y → Became m ask x y
     by x y (Was i there counted) =

@@ -11,7 +11,7 @@ use Rattle.fax_core.specs.Ageing.{aged}
 use Rattle.fax_core.specs.Best.{best}
 use Rattle.fax_core.specs.Decisions.{JobAndGrant, ended, granted, outcome}
 use Rattle.fax_core.specs.Job.{Job}
-use Rattle.fax_core.specs.Machine.{given, given_best, given_free, handed, held_by, is_down, on_both, on_grant, outcome_reply, reported, step, with_both, with_new_grant}
+use Rattle.fax_core.specs.Machine.{given, given_best, given_free, handed, held_by, is_down, on_both, on_grant, outcome_reply, reported, step, with_both, with_new_grant, stamped}
 use Rattle.fax_core.specs.Queue.{Queue, grant_numbered}
 use Rattle.fax_core.specs.Reply.{Given, Handed, NoKeys, Refused, Taken}
 use Rattle.fax_core.specs.Settings.{Settings}
@@ -27,15 +27,16 @@ use Rattle.fax_core.proofs.KeepLemmas.{numbered_grant}
 use Rattle.fax_core.proofs.PlaceLemmas.{placed_here}
 use Rattle.fax_core.proofs.StepLemmas.{aged_sound}
 use Rattle.fax_run.specs.Progress.{BusyModemsFindTheirs, FreeModemsAreServed, IsUp, OpenGrantsCanEnd, WaitingJobsGetReady}
+use Rattle.fax_core.specs.Stamp.{stamp}
 
 -- ---- modems
 
 -- what a modem that is up is given is by the grant that it holds, if any
-asks_up : (s : Settings) (m : Queue) (t : ℕ) (modem : List ℕ) → IsUp s m modem → step s m t (Next modem) ≡ given_free s (aged t m) t modem (held_by modem m)
+asks_up : (s : Settings) (m : Queue) (t : ℕ) (modem : List ℕ) → IsUp s m modem → step s m t (Next modem) ≡ stamped t (aged t m) (given_free s (aged t m) t modem (held_by modem m))
 asks_up s m t modem is =
     let free = given_free s (aged t m) t modem (held_by modem m) in
-    ap (λ b. cond (not b) (Refused NoModem NoKeys) (cond (is_down modem m) (Refused ModemDown NoKeys) free)) is.known
-    ∙ ap (λ b. cond b (Refused ModemDown NoKeys) free) is.up
+    ap (stamped t (aged t m)) (ap (λ b. cond (not b) (Refused NoModem NoKeys) (cond (is_down modem m) (Refused ModemDown NoKeys) free)) is.known
+    ∙ ap (λ b. cond b (Refused ModemDown NoKeys) free) is.up)
 
 -- a number that isn't past the greatest isn't refused as full
 not_full : (n max : ℕ) → n ≤ max → nat_lt max n ≡ false
@@ -44,7 +45,7 @@ not_full n max few = grind (arith, nat_tests)
 pub free_modems_are_served : FreeModemsAreServed
 free_modems_are_served s m t modem j is free left goes =
     let served = by (best s (aged t m) t modem) refl in
-    (served.0, served.1, asks_up s m t modem is ∙ ap (given_free s (aged t m) t modem) free ∙ served.2)
+    (stamp t (aged t m) served.0, served.1, asks_up s m t modem is ∙ ap (stamped t (aged t m)) (ap (given_free s (aged t m) t modem) free ∙ served.2))
   where
     given_new : (k : Job) → nat_lt s.max_grants m.next_grant ≡ false → (n : Queue) × (h : Handed) × (given_best s (aged t m) modem (Some k) ≡ Taken n (Given h))
     given_new k few =
@@ -59,7 +60,7 @@ free_modems_are_served s m t modem j is free left goes =
         (new.0, new.1, ap (given_best s (aged t m) modem) is ∙ new.2)
 
 pub busy_modems_find_theirs : BusyModemsFindTheirs
-busy_modems_find_theirs s m t modem g is held = asks_up s m t modem is ∙ ap (given_free s (aged t m) t modem) held
+busy_modems_find_theirs s m t modem g is held = asks_up s m t modem is ∙ ap (stamped t (aged t m)) (ap (given_free s (aged t m) t modem) held)
 
 -- ---- grants
 
@@ -95,7 +96,7 @@ open_grants_can_end s m t number g sound is =
     ∙ ap (on_both s (aged t m) t (report.Outcome (failed g)) g) held.1
     ∙ ap (reported (aged t m) (outcome_reply s t) j) (takes_failed j g (s.delay g.call) t is.1) in
     let there : grant_numbered number after ≡ Some closed = placed_here (λ (x : Grant). x.number) number closed g m.grants is.0 (numbered_grant m number g is.0) in
-    (failed g, after, outcome_reply s t after both, taken, λ h found. let same : closed ≡ h = (let both = sym there ∙ found in cc) in sym (ap (λ (x : Grant). x.is_open) same))
+    (failed g, stamp t (aged t m) after, outcome_reply s t after both, ap (stamped t (aged t m)) taken, λ h found. let same : closed ≡ h = (let both = sym there ∙ found in cc) in sym (ap (λ (x : Grant). x.is_open) same))
 
 -- ---- jobs
 

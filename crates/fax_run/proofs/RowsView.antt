@@ -1,16 +1,21 @@
--- Worked rows: which jobs are the newest, and what is shown of modems.
-use Rattle.std.specs.Prelude.{◌≡◌, ℕ, true, [], ◌∷◌, codes, false, refl}
+-- Worked rows: which jobs are the newest, and what is shown of modems and of a job's times.
+use Rattle.std.specs.Prelude.{◌≡◌, ℕ, List, Some, true, [], ◌∷◌, codes, false, refl}
 use Rattle.std.specs.Fmt.{digits}
 use Rattle.std.specs.List.{range_with_len}
 use Rattle.fax_job.specs.declared.job.Call.TheVariants.{Connected}
 use Rattle.fax_core.specs.Queue.{Queue, empty_queue}
-use Rattle.fax_core.specs.declared.ask.Ask.TheVariants.{Mark, Next, OnGrant, Submission}
+use Rattle.fax_job.specs.declared.refusal.Refusal.TheVariants.{NoJob}
+use Rattle.fax_ask.specs.Response.{Response, refused_response}
+use Rattle.fax_ask.specs.declared.view.View.TheVariants.{Times}
+use Rattle.fax_core.specs.Reply.{NoKeys}
+use Rattle.fax_core.specs.declared.ask.Ask.TheVariants.{Mark, Next, OnGrant, OnJob, Submission}
+use Rattle.fax_core.specs.declared.ask.JobAsk.TheVariants.{Kill}
 use Rattle.fax_core.specs.declared.report.Ending.TheVariants.{Fail, Retry}
 use Rattle.fax_core.specs.declared.report.Report.TheVariants.{Call, Outcome, Page}
 use Rattle.fax_core.proofs.RowsGrants.{long_number}
 use Rattle.fax_core.proofs.RowWords.{◌at◌, after, order, report, settings, ttyS0, ttyS1}
 use Rattle.fax_run.specs.Modems.{modem_names, modems_shown, with_names}
-use Rattle.fax_run.specs.View.{newest}
+use Rattle.fax_run.specs.View.{newest, view}
 
 -- of none, two and 200 all, and of 201 and 450 the last 200
 none_row : newest {A = ℕ} [] ≡ []
@@ -78,3 +83,40 @@ closed_row = refl
 second_row : modems_shown settings second ≡ codes "ttyS0:up grant 3 job 2 number 5550112 pages 1-1 call none confirmed 0\nttyS1:up\n"
 unfolding digits
 second_row = refl
+
+-- ---- times
+
+-- the kill time of job 1 is 1500; job 2 was killed
+abbrev two_jobs : Queue
+two_jobs = after (
+    Submission (record (order long_number 3) { killtime = Some 1500 }) at 1000
+    ∷ Submission (order long_number 3) at 1001 ∷ OnJob 2 Kill at 1086 ∷ [])
+
+-- what is shown of the times of a number at t
+abbrev times_at : ℕ → ℕ → Response
+times_at number t = view settings two_jobs t (Times number)
+
+abbrev shown : List ℕ → Response
+shown lines = record { status = 200; is_json = false; body = lines }
+
+-- before its kill time a job has no end, and from then on the moment of the view
+waiting_times_row : times_at 1 1499 ≡ shown (codes "submitted:1000\nended:0\n")
+unfolding digits
+waiting_times_row = refl
+
+expired_times_row : times_at 1 1500 ≡ shown (codes "submitted:1000\nended:1500\n")
+unfolding digits
+expired_times_row = refl
+
+later_times_row : times_at 1 1700 ≡ shown (codes "submitted:1000\nended:1700\n")
+unfolding digits
+later_times_row = refl
+
+-- a job that is over has its end
+killed_times_row : times_at 2 1700 ≡ shown (codes "submitted:1001\nended:1086\n")
+unfolding digits
+killed_times_row = refl
+
+-- a job that isn't there is refused
+no_times_row : times_at 3 1700 ≡ refused_response NoJob NoKeys
+no_times_row = refl

@@ -10,11 +10,11 @@ use Rattle.sqlite_sql.specs.declared.ops.BinaryOp.TheVariants.{Compare}
 use Rattle.sqlite_sql.specs.declared.ops.CompareOp.TheVariants.{Le}
 use Rattle.sqlite_catalog.specs.Change.{created}
 use Rattle.sqlite_tied.specs.Compute.{everything}
-use Rattle.fax_schema.specs.declared.statements.TheConstants.{CREATE_FLOORS, DELETE_REPLIES, SELECT_HUNDREDTH, SELECT_FLOOR, DELETE_FLOOR, INSERT_FLOOR}
+use Rattle.fax_schema.specs.declared.statements.TheConstants.{CREATE_FLOORS, CREATE_TIMES, DELETE_REPLIES, SELECT_HUNDREDTH, SELECT_FLOOR, DELETE_FLOOR, INSERT_FLOOR}
 use Rattle.fax_schema.proofs.GrantTexts.{call_tests, call_project, call_terms}
 use Rattle.fax_schema.proofs.StatementForms.{equals, Makes, Selects, Commands}
 use Rattle.fax_schema.proofs.UpdateLemmas.{program_of, gone_project}
-use Rattle.fax_schema.specs.Schema.{first_bare, bare_tables, floors, floors_tree, our_tables, replies_tree}
+use Rattle.fax_schema.specs.Schema.{first_bare, second_bare, bare_tables, floors, floors_tree, our_tables, replies_tree, times}
 
 -- CREATE_FLOORS makes that of floors
 pub makes_floors : Makes first_bare CREATE_FLOORS.now floors
@@ -22,9 +22,19 @@ unfolding understood everything
 makes_floors = record { command = refl; statement = refl; defined = refl; plain = (refl, refl) }
 
 -- and leaves the tables of the second version without the indexes of jobs
-pub created_floors : created first_bare floors ≡ bare_tables
+pub created_floors : created first_bare floors ≡ second_bare
 unfolding everything
 created_floors = refl
+
+-- CREATE_TIMES makes that of times
+pub makes_times : Makes second_bare CREATE_TIMES.now times
+unfolding understood everything
+makes_times = record { command = refl; statement = refl; defined = refl; plain = (refl, refl) }
+
+-- and leaves those of the third
+pub created_times : created second_bare times ≡ bare_tables
+unfolding everything
+created_times = refl
 
 abbrev pub given_up_tests : List Term
 given_up_tests = equals (col 1 1) (col 0 0) ∷ op2 (Compare Le Binary) (col 1 2) (col 0 1) ∷ []

@@ -14,17 +14,17 @@ use Rattle.sqlite_catalog.specs.Change.{created, indexed, next_tree, without_tab
 use Rattle.sqlite_rules.specs.Lists.{Has}
 use Rattle.sqlite_rules.proofs.ListLemmas.{all_has}
 use Rattle.sqlite_tied.specs.Compute.{everything}
-use Rattle.fax_schema.specs.declared.statements.TheConstants.{CREATE_JOBS, CREATE_GRANTS, CREATE_HOLDS, CREATE_DOWN, CREATE_REPLIES, CREATE_META, CREATE_FLOORS, CREATE_KILLTIME_INDEX, CREATE_CHOICE_INDEX, DROP_CALLS, DROP_CHOICE_INDEX, DROP_KILLTIME_INDEX}
+use Rattle.fax_schema.specs.declared.statements.TheConstants.{CREATE_JOBS, CREATE_GRANTS, CREATE_HOLDS, CREATE_DOWN, CREATE_REPLIES, CREATE_META, CREATE_FLOORS, CREATE_TIMES, CREATE_KILLTIME_INDEX, CREATE_CHOICE_INDEX, CREATE_GRANTS_INDEX, DROP_CALLS, DROP_CHOICE_INDEX, DROP_GRANTS_INDEX, DROP_KILLTIME_INDEX}
 use Rattle.fax_schema.specs.declared.way.Step.{Step}
-use Rattle.fax_schema.specs.declared.way.Step.TheVariants.{DropIndexes, DropCalls, CreateFirst, CreateSecond, CreateIndexes}
-use Rattle.fax_schema.specs.Schema.{no_tables, with_jobs, with_grants, with_holds, with_down, with_replies, first_bare, first_with_killtime, first_core, first_older_core, first_tables, first_older, first_bare_calls, first_vacuumed, first_vacuumed_with_killtime, first_older_vacuumed, first_keys, first_list, first_past, bare_tables, with_killtime_index, core_tables, our_tables, bare_with_calls, vacuumed_tables, vacuumed_with_killtime, jobs, grants, holds, down, replies, meta, floors, calls_at, calls_place, calls_tree, core_keys, core_past, killtime_index_at, choice_index_at, older_choice_index_at}
+use Rattle.fax_schema.specs.declared.way.Step.TheVariants.{DropIndexes, DropJobIndexes, DropCalls, CreateFirst, CreateSecond, CreateThird, CreateIndexes}
+use Rattle.fax_schema.specs.Schema.{no_tables, with_jobs, with_grants, with_holds, with_down, with_replies, first_bare, first_with_killtime, first_core, first_older_core, first_tables, first_older, first_bare_calls, first_vacuumed, first_vacuumed_with_killtime, first_older_vacuumed, first_keys, first_list, first_past, second_bare, second_with_killtime, second_core, second_tables, second_bare_calls, second_vacuumed, second_vacuumed_with_killtime, both_list, both_keys, both_past, bare_tables, with_killtime_index, with_job_indexes, core_tables, our_tables, bare_with_calls, vacuumed_tables, vacuumed_with_two, vacuumed_with_killtime, jobs, grants, holds, down, replies, meta, floors, times, calls_at, calls_place, calls_tree, core_keys, core_past, killtime_index_at, choice_index_at, older_choice_index_at, grants_index_at}
 use Rattle.fax_schema.specs.Way.{changes, texts_of}
 use Rattle.fax_schema.proofs.RowsLemmas.{are_in, is_in}
 use Rattle.fax_schema.proofs.StatementForms.{Makes}
 use Rattle.fax_schema.proofs.StatementTexts.{makes_jobs, created_jobs, makes_replies, created_replies, makes_meta, created_meta}
 use Rattle.fax_schema.proofs.GrantTexts.{makes_grants, created_grants, makes_holds, created_holds}
 use Rattle.fax_schema.proofs.ModemTexts.{makes_down, created_down}
-use Rattle.fax_schema.proofs.ClientTexts.{makes_floors, created_floors}
+use Rattle.fax_schema.proofs.ClientTexts.{makes_floors, created_floors, makes_times, created_times}
 
 -- ---- one text
 
@@ -36,15 +36,17 @@ pub record AddsTable (before : Schema) (sql : List ℕ) (after : Schema) : Type 
   pub lacks : lacks_sequence after ≡ false
   pub new : is_in before.tables (next_tree before) ≡ false
 
--- it makes an index of jobs
+-- it makes an index of a table
 pub record AddsIndex (before : Schema) (sql : List ℕ) (after : Schema) : Type 0 where
+  pub at : ℕ
+  pub table : Table
   pub index : Index
-  pub command : command_of (understood before sql) ≡ CreateIndex 0
+  pub command : command_of (understood before sql) ≡ CreateIndex at
   pub statement : statement_of sql (understood before sql) ≡ sql
-  pub defined : index_defined_by jobs sql ≡ Ok (record index { tree = 0; table = 0 })
+  pub defined : index_defined_by table sql ≡ Ok (record index { tree = 0; table = table.tree })
   pub plain : IsPlain (understood before sql)
-  pub has : slice_get before.tables 0 ≡ Some jobs
-  pub is : indexed before jobs index ≡ after
+  pub has : slice_get before.tables at ≡ Some table
+  pub is : indexed before table index ≡ after
   pub tables : before.tables ≡ after.tables
 
 -- it takes a table away to which no other refers
@@ -76,12 +78,17 @@ Turns before sql after = AddsTable before sql after ⊎ AddsIndex before sql aft
 -- CREATE_KILLTIME_INDEX makes the index of jobs by kill time
 makes_killtime : AddsIndex bare_tables CREATE_KILLTIME_INDEX.now with_killtime_index
 unfolding understood everything
-makes_killtime = record { index = killtime_index_at core_past; command = refl; statement = refl; defined = refl; plain = (refl, refl); has = refl; is = refl; tables = refl }
+makes_killtime = record { at = 0; table = jobs; index = killtime_index_at core_past; command = refl; statement = refl; defined = refl; plain = (refl, refl); has = refl; is = refl; tables = refl }
 
 -- and CREATE_CHOICE_INDEX that by the order of the choice
-makes_choice : AddsIndex with_killtime_index CREATE_CHOICE_INDEX.now core_tables
+makes_choice : AddsIndex with_killtime_index CREATE_CHOICE_INDEX.now with_job_indexes
 unfolding understood everything
-makes_choice = record { index = choice_index_at (core_past + 1); command = refl; statement = refl; defined = refl; plain = (refl, refl); has = refl; is = refl; tables = refl }
+makes_choice = record { at = 0; table = jobs; index = choice_index_at (core_past + 1); command = refl; statement = refl; defined = refl; plain = (refl, refl); has = refl; is = refl; tables = refl }
+
+-- and CREATE_GRANTS_INDEX that of the grants by job
+makes_grants_index : AddsIndex with_job_indexes CREATE_GRANTS_INDEX.now core_tables
+unfolding understood everything
+makes_grants_index = record { at = 1; table = grants; index = grants_index_at (core_past + 2); command = refl; statement = refl; defined = refl; plain = (refl, refl); has = refl; is = refl; tables = refl }
 
 -- DROP_CALLS takes `calls` from these
 drops_calls : TakesAway our_tables DROP_CALLS.now core_tables
@@ -93,7 +100,16 @@ drops_bare_calls : TakesAway bare_with_calls DROP_CALLS.now bare_tables
 unfolding understood everything
 drops_bare_calls = record { at = calls_place; table = calls_at core_past; command = refl; plain = (refl, refl); has = refl; unacted = refl; uncounted = refl; left = refl; still = refl }
 
--- and from those of the first version
+-- from those of the second version
+drops_second_calls : TakesAway second_tables DROP_CALLS.now second_core
+unfolding understood everything
+drops_second_calls = record { at = length both_list; table = calls_at (both_past + 2); command = refl; plain = (refl, refl); has = refl; unacted = refl; uncounted = refl; left = refl; still = refl }
+
+drops_second_bare_calls : TakesAway second_bare_calls DROP_CALLS.now second_bare
+unfolding understood everything
+drops_second_bare_calls = record { at = length both_list; table = calls_at both_past; command = refl; plain = (refl, refl); has = refl; unacted = refl; uncounted = refl; left = refl; still = refl }
+
+-- and from those of the first
 drops_first_calls : TakesAway first_tables DROP_CALLS.now first_core
 unfolding understood everything
 drops_first_calls = record { at = length first_list; table = calls_at (first_past + 2); command = refl; plain = (refl, refl); has = refl; unacted = refl; uncounted = refl; left = refl; still = refl }
@@ -106,8 +122,13 @@ drops_first_older_calls : TakesAway first_older DROP_CALLS.now first_older_core
 unfolding understood everything
 drops_first_older_calls = record { at = length first_list; table = calls_at (first_past + 2); command = refl; plain = (refl, refl); has = refl; unacted = refl; uncounted = refl; left = refl; still = refl }
 
--- DROP_CHOICE_INDEX takes its index from the tables as VACUUM leaves them
-drops_choice : LosesIndex vacuumed_tables DROP_CHOICE_INDEX.now vacuumed_with_killtime
+-- DROP_GRANTS_INDEX takes its index from the tables as VACUUM leaves them
+drops_grants_index : LosesIndex vacuumed_tables DROP_GRANTS_INDEX.now vacuumed_with_two
+unfolding understood everything
+drops_grants_index = record { at = length core_keys + 3; index = grants_index_at (core_past + 4); command = refl; plain = (refl, refl); has = refl; left = refl; tables = refl }
+
+-- then DROP_CHOICE_INDEX takes its own
+drops_choice : LosesIndex vacuumed_with_two DROP_CHOICE_INDEX.now vacuumed_with_killtime
 unfolding understood everything
 drops_choice = record { at = length core_keys + 2; index = choice_index_at (core_past + 3); command = refl; plain = (refl, refl); has = refl; left = refl; tables = refl }
 
@@ -116,7 +137,24 @@ drops_killtime : LosesIndex vacuumed_with_killtime DROP_KILLTIME_INDEX.now bare_
 unfolding understood everything
 drops_killtime = record { at = length core_keys + 1; index = killtime_index_at (core_past + 2); command = refl; plain = (refl, refl); has = refl; left = refl; tables = refl }
 
--- so they do from those of the first version, with the newer or the older index
+-- so they do from those of the second version
+drops_second_choice : LosesIndex second_vacuumed DROP_CHOICE_INDEX.now second_vacuumed_with_killtime
+unfolding understood everything
+drops_second_choice = record { at = length both_keys + 2; index = choice_index_at (both_past + 3); command = refl; plain = (refl, refl); has = refl; left = refl; tables = refl }
+
+drops_second_killtime : LosesIndex second_vacuumed_with_killtime DROP_KILLTIME_INDEX.now second_bare_calls
+unfolding understood everything
+drops_second_killtime = record { at = length both_keys + 1; index = killtime_index_at (both_past + 2); command = refl; plain = (refl, refl); has = refl; left = refl; tables = refl }
+
+drops_second_core_choice : LosesIndex second_core DROP_CHOICE_INDEX.now second_with_killtime
+unfolding understood everything
+drops_second_core_choice = record { at = length both_keys + 1; index = choice_index_at (both_past + 1); command = refl; plain = (refl, refl); has = refl; left = refl; tables = refl }
+
+drops_second_core_killtime : LosesIndex second_with_killtime DROP_KILLTIME_INDEX.now second_bare
+unfolding understood everything
+drops_second_core_killtime = record { at = length both_keys; index = killtime_index_at both_past; command = refl; plain = (refl, refl); has = refl; left = refl; tables = refl }
+
+-- and from those of the first, with the newer or the older index
 drops_first_choice : LosesIndex first_vacuumed DROP_CHOICE_INDEX.now first_vacuumed_with_killtime
 unfolding understood everything
 drops_first_choice = record { at = length first_keys + 2; index = choice_index_at (first_past + 3); command = refl; plain = (refl, refl); has = refl; left = refl; tables = refl }
@@ -155,7 +193,7 @@ Goes step way = Passes (way.0).tables way.0 (texts_of step) way.1
 
 drops_both : (a middle b : Schema) → LosesIndex a DROP_CHOICE_INDEX.now middle → LosesIndex middle DROP_KILLTIME_INDEX.now b
     → list_all (λ t. is_in a.tables t.tree || not (is_in a.tables t.tree)) middle.tables ≡ true → list_all (λ t. is_in middle.tables t.tree || not (is_in a.tables t.tree)) b.tables ≡ true
-    → Goes DropIndexes (a, b)
+    → Goes DropJobIndexes (a, b)
 drops_both a middle b first next one two = (middle, inr (inr (inr first)), one, (b, inr (inr (inr next)), two, refl))
 
 drops_last : (a b : Schema) → TakesAway a DROP_CALLS.now b → list_all (λ t. is_in a.tables t.tree || not (is_in a.tables t.tree)) b.tables ≡ true → Goes DropCalls (a, b)
@@ -167,31 +205,16 @@ makes a b sql table it is lacks new = inl (record { table = table; makes = it; i
 -- the texts of each step lead wherever it leads
 pub passes : (step : Step) (a b : Schema) → Has (changes step) (a, b) → Passes a.tables a (texts_of step) b
 passes DropIndexes a b has = all_has (Goes DropIndexes) (changes DropIndexes) (a, b) (
-  drops_both vacuumed_tables vacuumed_with_killtime bare_with_calls drops_choice drops_killtime refl refl,
   (
-    drops_both first_vacuumed first_vacuumed_with_killtime first_bare_calls drops_first_choice drops_first_killtime refl refl,
-    (
-      drops_both first_older_vacuumed first_vacuumed_with_killtime first_bare_calls drops_first_older_choice drops_first_killtime refl refl,
-      (
-        drops_both first_core first_with_killtime first_bare drops_core_choice drops_core_killtime refl refl,
-        (drops_both first_older_core first_with_killtime first_bare drops_older_core_choice drops_core_killtime refl refl, tt),
-      ),
-    ),
+    vacuumed_with_two,
+    inr (inr (inr drops_grants_index)),
+    refl,
+    (vacuumed_with_killtime, inr (inr (inr drops_choice)), refl, (bare_with_calls, inr (inr (inr drops_killtime)), refl, refl)),
   ),
+  tt,
 ) has
-passes DropCalls a b has = all_has (Goes DropCalls) (changes DropCalls) (a, b) (
-  drops_last our_tables core_tables drops_calls refl,
-  (
-    drops_last bare_with_calls bare_tables drops_bare_calls refl,
-    (
-      drops_last first_tables first_core drops_first_calls refl,
-      (
-        drops_last first_older first_older_core drops_first_older_calls refl,
-        (drops_last first_bare_calls first_bare drops_first_bare_calls refl, tt),
-      ),
-    ),
-  ),
-) has
+passes DropJobIndexes a b has = all_has (Goes DropJobIndexes) (changes DropJobIndexes) (a, b) (drops_both second_vacuumed second_vacuumed_with_killtime second_bare_calls drops_second_choice drops_second_killtime refl refl, (drops_both second_core second_with_killtime second_bare drops_second_core_choice drops_second_core_killtime refl refl, (drops_both first_vacuumed first_vacuumed_with_killtime first_bare_calls drops_first_choice drops_first_killtime refl refl, (drops_both first_older_vacuumed first_vacuumed_with_killtime first_bare_calls drops_first_older_choice drops_first_killtime refl refl, (drops_both first_core first_with_killtime first_bare drops_core_choice drops_core_killtime refl refl, (drops_both first_older_core first_with_killtime first_bare drops_older_core_choice drops_core_killtime refl refl, tt)))))) has
+passes DropCalls a b has = all_has (Goes DropCalls) (changes DropCalls) (a, b) (drops_last our_tables core_tables drops_calls refl, (drops_last bare_with_calls bare_tables drops_bare_calls refl, (drops_last second_tables second_core drops_second_calls refl, (drops_last second_bare_calls second_bare drops_second_bare_calls refl, (drops_last first_tables first_core drops_first_calls refl, (drops_last first_older first_older_core drops_first_older_calls refl, (drops_last first_bare_calls first_bare drops_first_bare_calls refl, tt))))))) has
 passes CreateFirst a b has = all_has (Goes CreateFirst) (changes CreateFirst) (a, b) (
   (
     with_jobs,
@@ -226,5 +249,12 @@ passes CreateFirst a b has = all_has (Goes CreateFirst) (changes CreateFirst) (a
   ),
   tt,
 ) has
-passes CreateSecond a b has = all_has (Goes CreateSecond) (changes CreateSecond) (a, b) ((bare_tables, makes first_bare bare_tables CREATE_FLOORS.now floors makes_floors created_floors refl refl, refl, refl), tt) has
-passes CreateIndexes a b has = all_has (Goes CreateIndexes) (changes CreateIndexes) (a, b) ((with_killtime_index, inr (inl makes_killtime), refl, (core_tables, inr (inl makes_choice), refl, refl)), tt) has
+passes CreateSecond a b has =
+    all_has (Goes CreateSecond) (changes CreateSecond) (a, b) ((second_bare, makes first_bare second_bare CREATE_FLOORS.now floors makes_floors created_floors refl refl, refl, refl), tt) has
+passes CreateThird a b has =
+    all_has (Goes CreateThird) (changes CreateThird) (a, b) ((bare_tables, makes second_bare bare_tables CREATE_TIMES.now times makes_times created_times refl refl, refl, refl), tt) has
+passes CreateIndexes a b has =
+    all_has (Goes CreateIndexes) (changes CreateIndexes) (a, b) (
+      (with_killtime_index, inr (inl makes_killtime), refl, (with_job_indexes, inr (inl makes_choice), refl, (core_tables, inr (inl makes_grants_index), refl, refl))),
+      tt,
+    ) has

@@ -2,6 +2,7 @@ pub mod CompareLemmas
 pub mod SelectLemmas
 pub mod WriteLemmas
 pub mod EditLemmas
+pub mod TimesTexts
 pub mod UpdateLemmas
 pub mod AppendLemmas
 pub mod ColumnLemmas

@@ -87,5 +87,5 @@ pub not_ours : (schema : Schema) → schema ≡ no_tables → AreOurs schema →
 not_ours schema none ours =
     let Some = λ (s : Schema). nat_lt 0 (length s.tables) ≡ true in
     let some : nat_lt 0 (length schema.tables) ≡ true =
-    all_has Some our_layouts schema (refl, (refl, (refl, (refl, (refl, (refl, (refl, (refl, (refl, (refl, (refl, (refl, (refl, tt))))))))))))) ours in
+    all_has Some our_layouts schema (refl, (refl, (refl, (refl, (refl, (refl, (refl, (refl, (refl, (refl, (refl, (refl, (refl, (refl, (refl, (refl, (refl, (refl, tt)))))))))))))))))) ours in
     false≢true (subst Some none some)

@@ -76,9 +76,9 @@ unfolding understood everything
 select_version = record { command = refl; plain = (refl, refl); unlisted = refl }
 
 abbrev pub raise_project : List Term
-raise_project = col 1 0 ∷ col 1 0 ∷ lit Null ∷ col 1 2 ∷ col 1 3 ∷ col 1 4 ∷ lit (Int (pos 2)) ∷ []
+raise_project = col 1 0 ∷ col 1 0 ∷ lit Null ∷ col 1 2 ∷ col 1 3 ∷ col 1 4 ∷ lit (Int (pos 3)) ∷ []
 
--- UPDATE_VERSION sets it to 2 in each
+-- UPDATE_VERSION sets it to 3 in each
 pub update_version : Commands UPDATE_VERSION.now (Update 5 (program_of meta_tree [] raise_project))
 unfolding understood everything
 update_version = record { is = refl; plain = (refl, refl) }
@@ -208,11 +208,11 @@ update_job = record { is = refl; plain = (refl, refl) }
 abbrev pub expired_tests : List Term
 expired_tests = equals (col 1 18) (col 0 1) ∷ op2 (Compare Ge Binary) (col 1 8) (lit (Int (pos 1))) ∷ op2 (Compare Le Binary) (col 1 8) (col 0 0) ∷ []
 
-abbrev pub killtime_project : List Term
-killtime_project = col 1 8 ∷ []
+abbrev pub number_project : List Term
+number_project = col 1 0 ∷ []
 
--- SELECT_EXPIRED reads the kill times of jobs of a phase that are past
-pub select_expired : Selects SELECT_EXPIRED.now jobs_tree expired_tests killtime_project (codes "killtime" ∷ [])
+-- SELECT_EXPIRED reads the numbers of jobs of a phase whose kill times are past
+pub select_expired : Selects SELECT_EXPIRED.now jobs_tree expired_tests number_project (codes "job" ∷ [])
 unfolding understood everything
 select_expired = record { command = refl; plain = (refl, refl); unlisted = refl }
 
@@ -303,6 +303,6 @@ select_briefs_from = record { command = refl; plain = (refl, refl); unlisted = r
 
 -- INSERT_META puts the row of an empty store into meta
 pub insert_meta : Commands INSERT_META.now
-    (Insert 5 (Values (lit (Int (pos 1)) ∷ lit Null ∷ lit (Int (pos 0)) ∷ lit (Int (pos 1)) ∷ lit (Int (pos 1)) ∷ lit (Int (pos 2)) ∷ []) 6))
+    (Insert 5 (Values (lit (Int (pos 1)) ∷ lit Null ∷ lit (Int (pos 0)) ∷ lit (Int (pos 1)) ∷ lit (Int (pos 1)) ∷ lit (Int (pos 3)) ∷ []) 6))
 unfolding understood everything
 insert_meta = record { is = refl; plain = (refl, refl) }

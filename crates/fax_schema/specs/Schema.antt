@@ -1,4 +1,4 @@
--- The eight tables and their indexes as the database knows them, and those of the first version, which had no floors.
+-- The nine tables and their indexes as the database knows them, those of the second version, which had no times, and those of the first, which had no floors either.
 use Rattle.std.specs.Prelude.{ℕ, ◌+◌, Bool, true, false, List, [], ◌∷◌, ◌++◌, codes, length, Option, Some, None, pos}
 use Rattle.std.specs.List.{list_any}
 use Rattle.std.specs.Str.{bytes_eq}
@@ -68,6 +68,9 @@ meta_tree = 10
 abbrev pub floors_tree : ℕ
 floors_tree = 11
 
+abbrev pub times_tree : ℕ
+times_tree = 13
+
 abbrev pub job_columns : List Column
 job_columns =
     integer (codes "job") ∷ text (codes "dial") ∷ text (codes "modem") ∷ text (codes "jobtag") ∷ text (codes "status") ∷ text (codes "extra")
@@ -106,6 +109,10 @@ meta =
 -- through which number each client has given up its replies
 abbrev pub floors : Table
 floors = table_of (codes "floors") floors_tree (text (codes "client") ∷ integer (codes "upto") ∷ []) None (1 ∷ []) ((1 ∷ []) ∷ []) (plain ∷ []) []
+
+-- when each job came in, and when it ended
+abbrev pub times : Table
+times = table_of (codes "times") times_tree (integer (codes "job") ∷ integer (codes "submitted") ∷ integer (codes "ended") ∷ []) (Some 0) (0 ∷ []) [] [] []
 
 -- how many grants are open to each number, in a tree that depends on when the table was made
 abbrev pub calls_at : ℕ → Table
@@ -148,9 +155,17 @@ choice_index_at tree = jobs_index (codes "jobs_by_choice") tree (18 ∷ 9 ∷ 7 
 abbrev pub older_choice_index_at : ℕ → Index
 older_choice_index_at tree = jobs_index (codes "jobs_by_choice") tree (18 ∷ 9 ∷ 7 ∷ [])
 
--- both, the first in this tree
+-- the index by which the grants of a job are found
+abbrev pub grants_index_at : ℕ → Index
+grants_index_at tree = record { name = codes "grants_by_job"; tree = tree; table = grants_tree; columns = 2 ∷ []; order = plain; is_unique = false }
+
+-- those of jobs, the first in this tree
+abbrev pub job_indexes_at : ℕ → List Index
+job_indexes_at tree = killtime_index_at tree ∷ choice_index_at (tree + 1) ∷ []
+
+-- all three
 abbrev pub indexes_at : ℕ → List Index
-indexes_at tree = killtime_index_at tree ∷ choice_index_at (tree + 1) ∷ []
+indexes_at tree = job_indexes_at tree ++ grants_index_at (tree + 2) ∷ []
 
 abbrev pub older_indexes_at : ℕ → List Index
 older_indexes_at tree = killtime_index_at tree ∷ older_choice_index_at (tree + 1) ∷ []
@@ -185,12 +200,12 @@ with_replies = laid (jobs ∷ grants ∷ holds ∷ down ∷ replies ∷ []) (hol
 
 -- ---- the tables of the first version: those without floors
 
+abbrev pub first_list : List Table
+first_list = jobs ∷ grants ∷ holds ∷ down ∷ replies ∷ meta ∷ []
+
 -- those whose rows are alike in each version
 abbrev pub alike_list : List Table
-alike_list = jobs ∷ grants ∷ holds ∷ down ∷ replies ∷ []
-
-abbrev pub first_list : List Table
-first_list = alike_list ++ meta ∷ []
+alike_list = jobs ∷ holds ∷ down ∷ replies ∷ []
 
 abbrev pub first_keys : List Index
 first_keys = holds_indexes ++ down_index ∷ replies_index ∷ []
@@ -207,7 +222,7 @@ first_with_killtime = laid first_list (first_keys ++ killtime_index_at first_pas
 
 -- with the indexes by which jobs are found
 abbrev pub first_core : Schema
-first_core = laid first_list (first_keys ++ indexes_at first_past)
+first_core = laid first_list (first_keys ++ job_indexes_at first_past)
 
 -- the same as stores made them before
 abbrev pub first_older_core : Schema
@@ -215,7 +230,7 @@ first_older_core = laid first_list (first_keys ++ older_indexes_at first_past)
 
 -- with `calls` behind them
 abbrev pub first_tables : Schema
-first_tables = laid (first_list ++ calls_at (first_past + 2) ∷ []) (first_keys ++ indexes_at first_past ++ calls_index_at (first_past + 2) ∷ [])
+first_tables = laid (first_list ++ calls_at (first_past + 2) ∷ []) (first_keys ++ job_indexes_at first_past ++ calls_index_at (first_past + 2) ∷ [])
 
 abbrev pub first_older : Schema
 first_older = laid (first_list ++ calls_at (first_past + 2) ∷ []) (first_keys ++ older_indexes_at first_past ++ calls_index_at (first_past + 2) ∷ [])
@@ -226,7 +241,7 @@ first_bare_calls = laid (first_list ++ calls_at first_past ∷ []) (first_keys +
 
 -- all seven with those of jobs last, as VACUUM leaves them
 abbrev pub first_vacuumed : Schema
-first_vacuumed = laid (first_list ++ calls_at first_past ∷ []) (first_keys ++ calls_index_at first_past ∷ indexes_at (first_past + 2))
+first_vacuumed = laid (first_list ++ calls_at first_past ∷ []) (first_keys ++ calls_index_at first_past ∷ job_indexes_at (first_past + 2))
 
 abbrev pub first_older_vacuumed : Schema
 first_older_vacuumed = laid (first_list ++ calls_at first_past ∷ []) (first_keys ++ calls_index_at first_past ∷ older_indexes_at (first_past + 2))
@@ -235,26 +250,72 @@ first_older_vacuumed = laid (first_list ++ calls_at first_past ∷ []) (first_ke
 abbrev pub first_vacuumed_with_killtime : Schema
 first_vacuumed_with_killtime = laid (first_list ++ calls_at first_past ∷ []) (first_keys ++ calls_index_at first_past ∷ killtime_index_at (first_past + 2) ∷ [])
 
--- ---- those of a store: with what the second version has beside the first's
+-- ---- the tables of the second version: those without times
 
+-- what it has beside the first
 abbrev pub second_list : List Table
 second_list = floors ∷ []
 
 abbrev pub second_keys : List Index
 second_keys = floors_index ∷ []
 
+abbrev pub both_list : List Table
+both_list = first_list ++ second_list
+
+abbrev pub both_keys : List Index
+both_keys = first_keys ++ second_keys
+
+abbrev pub both_past : ℕ
+both_past = past both_list both_keys
+
+-- the seven tables with the indexes of their keys alone
+abbrev pub second_bare : Schema
+second_bare = laid both_list both_keys
+
+abbrev pub second_with_killtime : Schema
+second_with_killtime = laid both_list (both_keys ++ killtime_index_at both_past ∷ [])
+
+-- with the indexes by which jobs are found
+abbrev pub second_core : Schema
+second_core = laid both_list (both_keys ++ job_indexes_at both_past)
+
+-- with `calls` behind them
+abbrev pub second_tables : Schema
+second_tables = laid (both_list ++ calls_at (both_past + 2) ∷ []) (both_keys ++ job_indexes_at both_past ++ calls_index_at (both_past + 2) ∷ [])
+
+-- all eight with the indexes of their keys alone, as another program may make them
+abbrev pub second_bare_calls : Schema
+second_bare_calls = laid (both_list ++ calls_at both_past ∷ []) (both_keys ++ calls_index_at both_past ∷ [])
+
+-- all eight with those of jobs last, as VACUUM leaves them
+abbrev pub second_vacuumed : Schema
+second_vacuumed = laid (both_list ++ calls_at both_past ∷ []) (both_keys ++ calls_index_at both_past ∷ job_indexes_at (both_past + 2))
+
+-- with the first of the two
+abbrev pub second_vacuumed_with_killtime : Schema
+second_vacuumed_with_killtime = laid (both_list ++ calls_at both_past ∷ []) (both_keys ++ calls_index_at both_past ∷ killtime_index_at (both_past + 2) ∷ [])
+
+-- ---- those of a store: with what the third version has beside the second's
+
+abbrev pub third_list : List Table
+third_list = times ∷ []
+
+-- what later versions have beside the first
+abbrev pub added_list : List Table
+added_list = second_list ++ third_list
+
 abbrev pub core_list : List Table
-core_list = first_list ++ second_list
+core_list = both_list ++ third_list
 
 abbrev pub core_keys : List Index
-core_keys = first_keys ++ second_keys
+core_keys = both_keys
 
 abbrev pub core_past : ℕ
 core_past = past core_list core_keys
 
--- where `calls` stands behind the indexes of jobs, and its place among the tables
+-- where `calls` stands behind the indexes of jobs and grants, and its place among the tables
 abbrev pub calls_tree : ℕ
-calls_tree = core_past + 2
+calls_tree = core_past + 3
 
 abbrev pub calls_place : ℕ
 calls_place = length core_list
@@ -262,47 +323,57 @@ calls_place = length core_list
 abbrev pub calls : Table
 calls = calls_at calls_tree
 
--- the seven tables that say all of a queue and of its clients, with the indexes of their keys alone
+-- the eight tables that say all of a queue and of its clients, with the indexes of their keys alone
 abbrev pub bare_tables : Schema
 bare_tables = laid core_list core_keys
 
 abbrev pub with_killtime_index : Schema
 with_killtime_index = laid core_list (core_keys ++ killtime_index_at core_past ∷ [])
 
--- with the indexes by which jobs are found
+abbrev pub with_job_indexes : Schema
+with_job_indexes = laid core_list (core_keys ++ job_indexes_at core_past)
+
+-- with the indexes by which jobs and grants are found
 abbrev pub core_tables : Schema
 core_tables = laid core_list (core_keys ++ indexes_at core_past)
 
--- All eight tables with all indexes: those of a store.
+-- All nine tables with all indexes: those of a store.
 abbrev pub our_tables : Schema
 our_tables = laid (core_list ++ calls ∷ []) (core_keys ++ indexes_at core_past ++ calls_index_at calls_tree ∷ [])
 
--- all eight with the indexes of their keys alone, as another program may make them
+-- all nine with the indexes of their keys alone, as another program may make them
 abbrev pub bare_with_calls : Schema
 bare_with_calls = laid (core_list ++ calls_at core_past ∷ []) (core_keys ++ calls_index_at core_past ∷ [])
 
--- all eight with those of jobs last, as VACUUM leaves them
+-- all nine with those of jobs and grants last, as VACUUM leaves them
 abbrev pub vacuumed_tables : Schema
 vacuumed_tables = laid (core_list ++ calls_at core_past ∷ []) (core_keys ++ calls_index_at core_past ∷ indexes_at (core_past + 2))
 
--- with the first of the two
+-- with those of jobs, and with the first of these
+abbrev pub vacuumed_with_two : Schema
+vacuumed_with_two = laid (core_list ++ calls_at core_past ∷ []) (core_keys ++ calls_index_at core_past ∷ job_indexes_at (core_past + 2))
+
 abbrev pub vacuumed_with_killtime : Schema
 vacuumed_with_killtime = laid (core_list ++ calls_at core_past ∷ []) (core_keys ++ calls_index_at core_past ∷ killtime_index_at (core_past + 2) ∷ [])
 
 -- ---- the tables of a queue
 
--- whether one of these tables is that of floors
-abbrev pub are_with_floors : List Table → Bool
-are_with_floors tables = list_any (λ t. bytes_eq t.name (codes "floors")) tables
+-- whether one of these tables has this name
+abbrev pub are_with : List ℕ → List Table → Bool
+are_with name tables = list_any (λ t. bytes_eq t.name name) tables
 
--- whether there are floors, as in the second version
+-- whether there are floors, as from the second version on
 abbrev pub has_floors : Schema → Bool
-has_floors schema = are_with_floors schema.tables
+has_floors schema = are_with (codes "floors") schema.tables
 
--- the layouts that they may have, those of the second version first
+-- whether there are times, as in the third
+abbrev pub has_times : Schema → Bool
+has_times schema = are_with (codes "times") schema.tables
+
+-- the layouts that they may have, those of the third version first
 abbrev pub our_layouts : List Schema
 our_layouts =
-    our_tables ∷ core_tables ∷ bare_tables ∷ bare_with_calls ∷ vacuumed_tables
+    our_tables ∷ core_tables ∷ bare_tables ∷ bare_with_calls ∷ vacuumed_tables ∷ second_tables ∷ second_core ∷ second_bare ∷ second_bare_calls ∷ second_vacuumed
     ∷ first_tables ∷ first_older ∷ first_core ∷ first_older_core ∷ first_bare ∷ first_bare_calls ∷ first_vacuumed ∷ first_older_vacuumed ∷ []
 
 -- the tables of a queue

@@ -17,7 +17,7 @@ use Rattle.fax_schema.specs.declared.shape.IndexShape.{IndexShape}
 use Rattle.fax_schema.specs.declared.shape.Part.{Part}
 use Rattle.fax_schema.specs.declared.shape.Part.TheVariants as part
 use Rattle.fax_schema.specs.declared.recognize.Left.{Left}
-use Rattle.fax_schema.specs.Schema.{column_of, jobs_tree, laid, table_of}
+use Rattle.fax_schema.specs.Schema.{column_of, laid, table_of}
 
 -- the columns of a shape
 abbrev pub columns_of : Shape → List Column
@@ -74,14 +74,14 @@ abbrev pub tables_from : ℕ → List Part → List Table
 tables_from tree [] = []
 tables_from tree (part.Table s ∷ parts) = tabled s tree ∷ tables_from (tree + 1) parts
 tables_from tree (part.Key i ∷ parts) = tables_from (tree + 1) parts
-tables_from tree (part.Index i ∷ parts) = tables_from (tree + 1) parts
+tables_from tree (part.Index i t ∷ parts) = tables_from (tree + 1) parts
 
--- the indexes among them: those of keys are of the table before them, at first of the one in the other tree
+-- the indexes among them: those of keys are of the table before them, at first of the one in the other tree; each other is of its own
 abbrev pub indexes_from : ℕ → ℕ → List Part → List Index
 indexes_from tree table [] = []
 indexes_from tree table (part.Table s ∷ parts) = indexes_from (tree + 1) tree parts
 indexes_from tree table (part.Key i ∷ parts) = indexed_as i tree table true ∷ indexes_from (tree + 1) table parts
-indexes_from tree table (part.Index i ∷ parts) = indexed_as i tree jobs_tree false ∷ indexes_from (tree + 1) table parts
+indexes_from tree table (part.Index i t ∷ parts) = indexed_as i tree t false ∷ indexes_from (tree + 1) table parts
 
 -- the parts of this layout, in their order
 abbrev pub parts_of : List (List Part) → List Part

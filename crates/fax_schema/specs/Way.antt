@@ -2,31 +2,35 @@
 use Rattle.std.specs.Prelude.{◌≡◌, ◌≤◌, ℕ, List, [], ◌∷◌, drop, length, map}
 use Rattle.sqlite_rules.specs.Lists.{Has}
 use Rattle.sqlite_schema.specs.declared.schema.Schema.{Schema}
-use Rattle.fax_schema.specs.declared.statements.TheConstants.{CREATE_JOBS, CREATE_GRANTS, CREATE_HOLDS, CREATE_DOWN, CREATE_REPLIES, CREATE_META, CREATE_FLOORS, CREATE_KILLTIME_INDEX, CREATE_CHOICE_INDEX, DROP_CALLS, DROP_CHOICE_INDEX, DROP_KILLTIME_INDEX}
+use Rattle.fax_schema.specs.declared.statements.TheConstants.{CREATE_JOBS, CREATE_GRANTS, CREATE_HOLDS, CREATE_DOWN, CREATE_REPLIES, CREATE_META, CREATE_FLOORS, CREATE_TIMES, CREATE_KILLTIME_INDEX, CREATE_CHOICE_INDEX, CREATE_GRANTS_INDEX, DROP_CALLS, DROP_CHOICE_INDEX, DROP_GRANTS_INDEX, DROP_KILLTIME_INDEX}
 use Rattle.fax_schema.specs.declared.way.Step.{Step}
-use Rattle.fax_schema.specs.declared.way.Step.TheVariants.{DropIndexes, DropCalls, CreateFirst, CreateSecond, CreateIndexes}
+use Rattle.fax_schema.specs.declared.way.Step.TheVariants.{DropIndexes, DropJobIndexes, DropCalls, CreateFirst, CreateSecond, CreateThird, CreateIndexes}
 use Rattle.fax_schema.specs.declared.way.TheConstants.{UPGRADES}
 use Rattle.fax_schema.specs.declared.way.Known.{Known}
 use Rattle.fax_schema.specs.declared.way.Way.{Way}
 use Rattle.fax_schema.specs.Shape.{laid_out}
-use Rattle.fax_schema.specs.Schema.{no_tables, our_tables, core_tables, bare_tables, bare_with_calls, vacuumed_tables, first_tables, first_older, first_core, first_older_core, first_bare, first_bare_calls, first_vacuumed, first_older_vacuumed}
+use Rattle.fax_schema.specs.Schema.{no_tables, our_tables, core_tables, bare_tables, bare_with_calls, vacuumed_tables, second_tables, second_core, second_bare, second_bare_calls, second_vacuumed, first_tables, first_older, first_core, first_older_core, first_bare, first_bare_calls, first_vacuumed, first_older_vacuumed}
 
 -- the texts of each step
 abbrev pub texts_of : Step → List (List ℕ)
-texts_of DropIndexes = DROP_CHOICE_INDEX.now ∷ DROP_KILLTIME_INDEX.now ∷ []
+texts_of DropIndexes = DROP_GRANTS_INDEX.now ∷ DROP_CHOICE_INDEX.now ∷ DROP_KILLTIME_INDEX.now ∷ []
+texts_of DropJobIndexes = DROP_CHOICE_INDEX.now ∷ DROP_KILLTIME_INDEX.now ∷ []
 texts_of DropCalls = DROP_CALLS.now ∷ []
 texts_of CreateFirst = CREATE_JOBS.now ∷ CREATE_GRANTS.now ∷ CREATE_HOLDS.now ∷ CREATE_DOWN.now ∷ CREATE_REPLIES.now ∷ CREATE_META.now ∷ []
 texts_of CreateSecond = CREATE_FLOORS.now ∷ []
-texts_of CreateIndexes = CREATE_KILLTIME_INDEX.now ∷ CREATE_CHOICE_INDEX.now ∷ []
+texts_of CreateThird = CREATE_TIMES.now ∷ []
+texts_of CreateIndexes = CREATE_KILLTIME_INDEX.now ∷ CREATE_CHOICE_INDEX.now ∷ CREATE_GRANTS_INDEX.now ∷ []
 
 -- from which layout each step leads to which
 abbrev pub changes : Step → List (Schema × Schema)
-changes DropIndexes =
-    (vacuumed_tables, bare_with_calls) ∷ (first_vacuumed, first_bare_calls) ∷ (first_older_vacuumed, first_bare_calls) ∷ (first_core, first_bare) ∷ (first_older_core, first_bare) ∷ []
+changes DropIndexes = (vacuumed_tables, bare_with_calls) ∷ []
+changes DropJobIndexes =
+    (second_vacuumed, second_bare_calls) ∷ (second_core, second_bare) ∷ (first_vacuumed, first_bare_calls) ∷ (first_older_vacuumed, first_bare_calls) ∷ (first_core, first_bare) ∷ (first_older_core, first_bare) ∷ []
 changes DropCalls =
-    (our_tables, core_tables) ∷ (bare_with_calls, bare_tables) ∷ (first_tables, first_core) ∷ (first_older, first_older_core) ∷ (first_bare_calls, first_bare) ∷ []
+    (our_tables, core_tables) ∷ (bare_with_calls, bare_tables) ∷ (second_tables, second_core) ∷ (second_bare_calls, second_bare) ∷ (first_tables, first_core) ∷ (first_older, first_older_core) ∷ (first_bare_calls, first_bare) ∷ []
 changes CreateFirst = (no_tables, first_bare) ∷ []
-changes CreateSecond = (first_bare, bare_tables) ∷ []
+changes CreateSecond = (first_bare, second_bare) ∷ []
+changes CreateThird = (second_bare, bare_tables) ∷ []
 changes CreateIndexes = (bare_tables, core_tables) ∷ []
 
 -- these steps, one behind the other, lead from the one to the other

@@ -1,4 +1,4 @@
-//! The eight tables of the fax queue in a database of `sqlite`: what they are, which databases have them, and the
+//! The nine tables of the fax queue in a database of `sqlite`: what they are, which databases have them, and the
 //! statements on them.
 //!
 //! What the rows mean is above, in `fax_tables`, and what runs the statements in `fax_store`.
@@ -9,5 +9,5 @@ mod shape;
 pub mod statements;
 mod way;
 
-pub use recognize::{has_floors, has_no_tables};
+pub use recognize::{has_floors, has_no_tables, has_times};
 pub use way::{Step, UPGRADES, Way, way_of};

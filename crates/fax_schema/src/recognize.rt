@@ -1,11 +1,11 @@
-//! Which databases have no tables, which have exactly those of a layout, and which are of the second version.
+//! Which databases have no tables, which have exactly those of a layout, and which have the tables of the second and of the third version.
 
 ghost use Rattle.std.specs.Prelude.{◌≡◌, ◌↔◌, [], ◌∷◌, map, pos, IsTrue, IfOk};
 ghost use Rattle.sqlite.specs.declared.types.Value.TheVariants.{Int};
 ghost use Rattle.sqlite_sql.specs.Syntax.{term_of, term_at};
 ghost use Rattle.sqlite_sql.specs.Term.{lit, col};
 ghost use Rattle.sqlite_value.specs.Keys.{plain};
-ghost use Rattle.fax_schema.specs.Schema.{are_with_floors, column_of, has_floors, no_tables};
+ghost use Rattle.fax_schema.specs.Schema.{are_with, column_of, has_floors, has_times, no_tables};
 ghost use Rattle.fax_schema.specs.Shape.{HasColumns, HasRules, Passes, PassesAll, PassesIndex, checks_of, first_is_one, indexed_as, laid_out, no_stamps, shaped, tabled};
 
 use crate::shape::{IndexShape, Layout, PLAIN, Part, Shape};
@@ -17,9 +17,6 @@ use sqlite_sql::ops::{BinaryOp, CompareOp};
 use sqlite_value::keys::{Collation, Order};
 use sqlite_value::value::{Value, ValueRef};
 use std::alloc::{AllocError, Global};
-
-/// The tree of the jobs, which are made first.
-const JOBS_TREE: u64 = 0;
 
 /// Whether a column is NOT NULL in a strict table, with this name and type, and has no other rule.
 fn is_column(column: &Column, name: &str, kind: Kind) -> bool
@@ -275,7 +272,7 @@ fn behind<'s>(alloc: Global, left: Left<'s>, part: &Part) -> Result<Option<Left<
     match part {
         Part::Table(shape) => behind_table(alloc, left, shape),
         Part::Key(shape) => Ok(behind_index(left, shape, left.table, true)),
-        Part::Index(shape) => Ok(behind_index(left, shape, JOBS_TREE, false)),
+        Part::Index(shape, table) => Ok(behind_index(left, shape, *table, false)),
     }
 }
 
@@ -328,12 +325,12 @@ pub fn has_no_tables(schema: &Schema) -> bool
     schema.tables.is_empty() && schema.indexes.is_empty() && schema.views.is_empty()
 }
 
-/// Whether one of these tables is that of floors.
-fn are_with_floors(mut tables: &[Table]) -> bool
-    ensures { result ≡ are_with_floors tables.entry.now }
+/// Whether one of these tables has this name.
+fn are_with(mut tables: &[Table], name: &str) -> bool
+    ensures { result ≡ are_with name.now tables.entry.now }
 {
     while let [table, rest @ ..] = tables {
-        if table.name.as_slice() == "floors".as_bytes() {
+        if table.name.as_slice() == name.as_bytes() {
             return true;
         }
         tables = rest;
@@ -341,9 +338,16 @@ fn are_with_floors(mut tables: &[Table]) -> bool
     false
 }
 
-/// Whether a database has a table of floors, as in the second version.
+/// Whether a database has a table of floors, as from the second version on.
 pub fn has_floors(schema: &Schema) -> bool
     ensures { result ≡ has_floors schema.now }
 {
-    are_with_floors(schema.tables.as_slice())
+    are_with(schema.tables.as_slice(), "floors")
+}
+
+/// Whether a database has a table of times, as in the third version.
+pub fn has_times(schema: &Schema) -> bool
+    ensures { result ≡ has_times schema.now }
+{
+    are_with(schema.tables.as_slice(), "times")
 }

@@ -24,9 +24,15 @@ pub(crate) enum Part {
     Table(Shape),
     /// The index that a key of the table before it has.
     Key(IndexShape),
-    /// An index by which jobs are found. It holds no rule.
-    Index(IndexShape),
+    /// An index by which rows of the table in that tree are found. It holds no rule.
+    Index(IndexShape, u64),
 }
+
+/// The tree of the jobs, which are made first.
+const JOBS_TREE: u64 = 0;
+
+/// The tree of the grants, which are made next.
+const GRANTS_TREE: u64 = 1;
 
 pub(crate) const PLAIN: Order = Order { digits: 0 };
 
@@ -169,6 +175,19 @@ const FLOORS_CLIENT: Part = Part::Key(IndexShape {
     places: &[1],
 });
 
+const TIMES: Part = Part::Table(Shape {
+    name: "times",
+    columns: &[
+        ("job", Kind::Integer),
+        ("submitted", Kind::Integer),
+        ("ended", Kind::Integer),
+    ],
+    key: Some(0),
+    primary: &[0],
+    uniques: &[],
+    has_one_row: false,
+});
+
 const CALLS: Part = Part::Table(Shape {
     name: "calls",
     columns: &[("dial", Kind::Text), ("open", Kind::Integer)],
@@ -184,22 +203,40 @@ const CALLS_DIAL: Part = Part::Key(IndexShape {
 });
 
 // By phase and kill time, for those that expire.
-const KILLTIME: Part = Part::Index(IndexShape {
-    name: "jobs_by_killtime",
-    places: &[18, 8],
-});
+const KILLTIME: Part = Part::Index(
+    IndexShape {
+        name: "jobs_by_killtime",
+        places: &[18, 8],
+    },
+    JOBS_TREE,
+);
 
 // In the order of the choice, with all else that it asks of a job.
-const CHOICE: Part = Part::Index(IndexShape {
-    name: "jobs_by_choice",
-    places: &[18, 9, 7, 0, 20, 8, 2, 3],
-});
+const CHOICE: Part = Part::Index(
+    IndexShape {
+        name: "jobs_by_choice",
+        places: &[18, 9, 7, 0, 20, 8, 2, 3],
+    },
+    JOBS_TREE,
+);
 
 // As stores made it before.
-const OLDER_CHOICE: Part = Part::Index(IndexShape {
-    name: "jobs_by_choice",
-    places: &[18, 9, 7],
-});
+const OLDER_CHOICE: Part = Part::Index(
+    IndexShape {
+        name: "jobs_by_choice",
+        places: &[18, 9, 7],
+    },
+    JOBS_TREE,
+);
+
+// The grants of a job.
+const BY_JOB: Part = Part::Index(
+    IndexShape {
+        name: "grants_by_job",
+        places: &[2],
+    },
+    GRANTS_TREE,
+);
 
 // ---- what is made together
 
@@ -221,10 +258,16 @@ const FIRST: &[Part] = &[
 /// What the second version has beside them.
 const SECOND: &[Part] = &[FLOORS, FLOORS_CLIENT];
 
-/// The indexes by which jobs are found.
-const INDEXES: &[Part] = &[KILLTIME, CHOICE];
+/// What the third version has beside those.
+const THIRD: &[Part] = &[TIMES];
 
-/// As stores made them before.
+/// The indexes by which jobs and grants are found.
+const INDEXES: &[Part] = &[KILLTIME, CHOICE, BY_JOB];
+
+/// Those of jobs alone, as stores made them before.
+const JOB_INDEXES: &[Part] = &[KILLTIME, CHOICE];
+
+/// As stores made them before that.
 const OLDER_INDEXES: &[Part] = &[KILLTIME, OLDER_CHOICE];
 
 /// The calls, with the index of their key.
@@ -237,30 +280,42 @@ pub(crate) type Layout = &'static [&'static [Part]];
 
 pub(crate) const FIRST_BARE: Layout = &[FIRST];
 
-pub(crate) const FIRST_CORE: Layout = &[FIRST, INDEXES];
+pub(crate) const FIRST_CORE: Layout = &[FIRST, JOB_INDEXES];
 
 pub(crate) const FIRST_OLDER_CORE: Layout = &[FIRST, OLDER_INDEXES];
 
-pub(crate) const FIRST_TABLES: Layout = &[FIRST, INDEXES, COUNTS];
+pub(crate) const FIRST_TABLES: Layout = &[FIRST, JOB_INDEXES, COUNTS];
 
 pub(crate) const FIRST_OLDER: Layout = &[FIRST, OLDER_INDEXES, COUNTS];
 
 pub(crate) const FIRST_BARE_CALLS: Layout = &[FIRST, COUNTS];
 
 // VACUUM moves the indexes behind the tables.
-pub(crate) const FIRST_VACUUMED: Layout = &[FIRST, COUNTS, INDEXES];
+pub(crate) const FIRST_VACUUMED: Layout = &[FIRST, COUNTS, JOB_INDEXES];
 
 pub(crate) const FIRST_OLDER_VACUUMED: Layout = &[FIRST, COUNTS, OLDER_INDEXES];
 
 // ---- the second version
 
-pub(crate) const BARE: Layout = &[FIRST, SECOND];
+pub(crate) const SECOND_BARE: Layout = &[FIRST, SECOND];
 
-pub(crate) const CORE: Layout = &[FIRST, SECOND, INDEXES];
+pub(crate) const SECOND_CORE: Layout = &[FIRST, SECOND, JOB_INDEXES];
+
+pub(crate) const SECOND_TABLES: Layout = &[FIRST, SECOND, JOB_INDEXES, COUNTS];
+
+pub(crate) const SECOND_BARE_CALLS: Layout = &[FIRST, SECOND, COUNTS];
+
+pub(crate) const SECOND_VACUUMED: Layout = &[FIRST, SECOND, COUNTS, JOB_INDEXES];
+
+// ---- the third version
+
+pub(crate) const BARE: Layout = &[FIRST, SECOND, THIRD];
+
+pub(crate) const CORE: Layout = &[FIRST, SECOND, THIRD, INDEXES];
 
 /// All that a store makes.
-pub(crate) const OURS: Layout = &[FIRST, SECOND, INDEXES, COUNTS];
+pub(crate) const OURS: Layout = &[FIRST, SECOND, THIRD, INDEXES, COUNTS];
 
-pub(crate) const BARE_CALLS: Layout = &[FIRST, SECOND, COUNTS];
+pub(crate) const BARE_CALLS: Layout = &[FIRST, SECOND, THIRD, COUNTS];
 
-pub(crate) const VACUUMED: Layout = &[FIRST, SECOND, COUNTS, INDEXES];
+pub(crate) const VACUUMED: Layout = &[FIRST, SECOND, THIRD, COUNTS, INDEXES];

@@ -40,14 +40,21 @@ pub const CREATE_CALLS: &str =
 pub const CREATE_FLOORS: &str =
     "CREATE TABLE floors (client TEXT PRIMARY KEY NOT NULL, upto INTEGER NOT NULL) STRICT";
 
+pub const CREATE_TIMES: &str = "CREATE TABLE times (job INTEGER PRIMARY KEY NOT NULL, \
+    submitted INTEGER NOT NULL, ended INTEGER NOT NULL) STRICT";
+
+pub const CREATE_GRANTS_INDEX: &str = "CREATE INDEX grants_by_job ON grants (job)";
+
 pub const DROP_CALLS: &str = "DROP TABLE calls";
 
 pub const DROP_CHOICE_INDEX: &str = "DROP INDEX jobs_by_choice";
 
 pub const DROP_KILLTIME_INDEX: &str = "DROP INDEX jobs_by_killtime";
 
+pub const DROP_GRANTS_INDEX: &str = "DROP INDEX grants_by_job";
+
 pub const INSERT_META: &str =
-    "INSERT INTO meta (one, clock, next_job, next_grant, version) VALUES (1, 0, 1, 1, 2)";
+    "INSERT INTO meta (one, clock, next_job, next_grant, version) VALUES (1, 0, 1, 1, 3)";
 
 // ---- jobs
 
@@ -80,7 +87,7 @@ pub const UPDATE_JOB: &str = "UPDATE jobs SET modem = ?2, jobtag = ?3, status = 
     WHERE job = ?1";
 
 pub const SELECT_EXPIRED: &str =
-    "SELECT killtime FROM jobs WHERE phase = ?2 AND killtime BETWEEN 1 AND ?1";
+    "SELECT job FROM jobs WHERE phase = ?2 AND killtime BETWEEN 1 AND ?1";
 
 pub const EXPIRE_JOBS: &str = "UPDATE jobs SET phase = 4, status = 'Kill time expired' \
     WHERE phase = ?2 AND killtime BETWEEN 1 AND ?1";
@@ -89,6 +96,14 @@ pub const INSERT_JOB: &str = "INSERT INTO jobs (job, dial, modem, jobtag, status
     priority, npages, totpages, ntries, tottries, maxtries, ndials, totdials, maxdials, phase, \
     wish, next, extra) VALUES (?1, ?2, ?3, ?4, ?5, ?6, ?7, ?8, ?9, ?10, ?11, ?12, ?13, ?14, ?15, ?16, \
     ?17, ?18, ?19, ?20)";
+
+// ---- the times of jobs
+
+pub const SELECT_TIMES: &str = "SELECT job, submitted, ended FROM times WHERE job = ?1";
+
+pub const INSERT_TIMES: &str = "INSERT INTO times (job, submitted, ended) VALUES (?1, ?2, ?3)";
+
+pub const END_TIMES: &str = "UPDATE times SET ended = ?2 WHERE job = ?1";
 
 // ---- the jobs that wait, a page at a time
 
@@ -177,10 +192,18 @@ pub const UPDATE_META: &str =
 
 pub const SELECT_VERSION: &str = "SELECT version FROM meta";
 
-pub const UPDATE_VERSION: &str = "UPDATE meta SET version = 2";
+pub const UPDATE_VERSION: &str = "UPDATE meta SET version = 3";
 
 pub const SELECT_LOST: &str =
     "SELECT holds.id FROM holds LEFT JOIN jobs ON jobs.job = holds.job WHERE jobs.job IS NULL";
+
+pub const SELECT_PHASES: &str = "SELECT job, phase FROM jobs";
+
+/// The closed grants of jobs that were taken out from outside, before the queue could purge.
+pub const SELECT_STRAYS: &str =
+    "SELECT grants.id FROM grants LEFT JOIN jobs ON jobs.job = grants.job WHERE jobs.job IS NULL";
+
+pub const DELETE_GRANT: &str = "DELETE FROM grants WHERE id = ?1";
 
 pub const SELECT_HELD: &str = "SELECT job FROM holds";
 

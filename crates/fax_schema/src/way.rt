@@ -11,12 +11,13 @@ ghost use Rattle.fax_schema.specs.Way.{HasWay, IsWay, layout_of, texts_of};
 use crate::recognize::has_layout;
 use crate::shape::{
     BARE, BARE_CALLS, CORE, FIRST_BARE, FIRST_BARE_CALLS, FIRST_CORE, FIRST_OLDER,
-    FIRST_OLDER_CORE, FIRST_OLDER_VACUUMED, FIRST_TABLES, FIRST_VACUUMED, Layout, OURS, VACUUMED,
+    FIRST_OLDER_CORE, FIRST_OLDER_VACUUMED, FIRST_TABLES, FIRST_VACUUMED, Layout, OURS,
+    SECOND_BARE, SECOND_BARE_CALLS, SECOND_CORE, SECOND_TABLES, SECOND_VACUUMED, VACUUMED,
 };
 use crate::statements::{
-    CREATE_CHOICE_INDEX, CREATE_DOWN, CREATE_FLOORS, CREATE_GRANTS, CREATE_HOLDS, CREATE_JOBS,
-    CREATE_KILLTIME_INDEX, CREATE_META, CREATE_REPLIES, DROP_CALLS, DROP_CHOICE_INDEX,
-    DROP_KILLTIME_INDEX,
+    CREATE_CHOICE_INDEX, CREATE_DOWN, CREATE_FLOORS, CREATE_GRANTS, CREATE_GRANTS_INDEX,
+    CREATE_HOLDS, CREATE_JOBS, CREATE_KILLTIME_INDEX, CREATE_META, CREATE_REPLIES, CREATE_TIMES,
+    DROP_CALLS, DROP_CHOICE_INDEX, DROP_GRANTS_INDEX, DROP_KILLTIME_INDEX,
 };
 use sqlite_schema::schema::Schema;
 use std::alloc::{AllocError, Global};
@@ -24,15 +25,19 @@ use std::alloc::{AllocError, Global};
 /// A step by which a database comes nearer to the tables and indexes of a store.
 #[derive(Clone, Copy)]
 pub enum Step {
-    /// Takes the indexes of jobs away, where they are the last.
+    /// Takes the indexes of jobs and grants away, where they are the last.
     DropIndexes,
+    /// Takes the indexes of jobs away, where they are the last.
+    DropJobIndexes,
     /// Takes `calls` away.
     DropCalls,
     /// Makes the tables of the first version, where there are none.
     CreateFirst,
     /// Makes what the second version has beside the first.
     CreateSecond,
-    /// Makes the indexes of jobs.
+    /// Makes what the third version has beside those.
+    CreateThird,
+    /// Makes the indexes of jobs and grants.
     CreateIndexes,
 }
 
@@ -42,7 +47,8 @@ impl Step {
         ensures { map (λ text. text.now) result.now ≡ texts_of self }
     {
         match self {
-            Step::DropIndexes => &[DROP_CHOICE_INDEX, DROP_KILLTIME_INDEX],
+            Step::DropIndexes => &[DROP_GRANTS_INDEX, DROP_CHOICE_INDEX, DROP_KILLTIME_INDEX],
+            Step::DropJobIndexes => &[DROP_CHOICE_INDEX, DROP_KILLTIME_INDEX],
             Step::DropCalls => &[DROP_CALLS],
             Step::CreateFirst => &[
                 CREATE_JOBS,
@@ -53,13 +59,25 @@ impl Step {
                 CREATE_META,
             ],
             Step::CreateSecond => &[CREATE_FLOORS],
-            Step::CreateIndexes => &[CREATE_KILLTIME_INDEX, CREATE_CHOICE_INDEX],
+            Step::CreateThird => &[CREATE_TIMES],
+            Step::CreateIndexes => {
+                &[
+                    CREATE_KILLTIME_INDEX,
+                    CREATE_CHOICE_INDEX,
+                    CREATE_GRANTS_INDEX,
+                ]
+            }
         }
     }
 }
 
-/// The steps that lead from no tables through each version to the next, and to the indexes of jobs.
-pub static UPGRADES: [Step; 3] = [Step::CreateFirst, Step::CreateSecond, Step::CreateIndexes];
+/// The steps that lead from no tables through each version to the next, and to the indexes.
+pub static UPGRADES: [Step; 4] = [
+    Step::CreateFirst,
+    Step::CreateSecond,
+    Step::CreateThird,
+    Step::CreateIndexes,
+];
 
 /// What a database goes through until it has all that a store has but `calls`.
 #[derive(Clone, Copy)]
@@ -74,23 +92,29 @@ pub struct Way {
 struct Known(Layout, &'static [Step], usize);
 
 const KNOWN: &[Known] = &[
+    // the third version
+    Known(OURS, &[Step::DropCalls], 4),
+    Known(CORE, &[], 4),
+    Known(BARE, &[], 3),
+    Known(BARE_CALLS, &[Step::DropCalls], 3),
+    Known(VACUUMED, &[Step::DropIndexes, Step::DropCalls], 3),
     // the second version
-    Known(OURS, &[Step::DropCalls], 3),
-    Known(CORE, &[], 3),
-    Known(BARE, &[], 2),
-    Known(BARE_CALLS, &[Step::DropCalls], 2),
-    Known(VACUUMED, &[Step::DropIndexes, Step::DropCalls], 2),
+    Known(SECOND_TABLES, &[Step::DropCalls, Step::DropJobIndexes], 2),
+    Known(SECOND_CORE, &[Step::DropJobIndexes], 2),
+    Known(SECOND_BARE, &[], 2),
+    Known(SECOND_BARE_CALLS, &[Step::DropCalls], 2),
+    Known(SECOND_VACUUMED, &[Step::DropJobIndexes, Step::DropCalls], 2),
     // the first version
-    Known(FIRST_TABLES, &[Step::DropCalls, Step::DropIndexes], 1),
-    Known(FIRST_OLDER, &[Step::DropCalls, Step::DropIndexes], 1),
-    Known(FIRST_CORE, &[Step::DropIndexes], 1),
-    Known(FIRST_OLDER_CORE, &[Step::DropIndexes], 1),
+    Known(FIRST_TABLES, &[Step::DropCalls, Step::DropJobIndexes], 1),
+    Known(FIRST_OLDER, &[Step::DropCalls, Step::DropJobIndexes], 1),
+    Known(FIRST_CORE, &[Step::DropJobIndexes], 1),
+    Known(FIRST_OLDER_CORE, &[Step::DropJobIndexes], 1),
     Known(FIRST_BARE, &[], 1),
     Known(FIRST_BARE_CALLS, &[Step::DropCalls], 1),
-    Known(FIRST_VACUUMED, &[Step::DropIndexes, Step::DropCalls], 1),
+    Known(FIRST_VACUUMED, &[Step::DropJobIndexes, Step::DropCalls], 1),
     Known(
         FIRST_OLDER_VACUUMED,
-        &[Step::DropIndexes, Step::DropCalls],
+        &[Step::DropJobIndexes, Step::DropCalls],
         1,
     ),
 ];

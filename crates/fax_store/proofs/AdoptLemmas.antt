@@ -1,9 +1,10 @@
 -- What the statements do by which a store comes to a database, and raises the version of its meta.
-use Rattle.std.proofs.Common.{◌≡◌, ◌≢◌, inl, inr, ℕ, List, [], ◌∷◌, codes, map, Bool, true, arith, Ok, Err, IsErr, IsErrAnd, IsTrue, MatchResult, Result, refl, sym, subst, ap, ap₂, ◌∙◌, IfErr, ◌==◌, pos, ◌++◌, drop, ◌&&◌, Some, OnOk, OnErr}
+use Rattle.std.proofs.Common.{◌≡◌, ◌≢◌, inl, inr, ℕ, List, [], ◌∷◌, codes, map, filter, get_or, if◌then◌else◌, Bool, true, false, arith, Ok, Err, IsErr, IsErrAnd, IsTrue, MatchResult, Result, refl, sym, subst, ap, ap₂, ◌∙◌, IfErr, ◌==◌, pos, ◌++◌, drop, ◌&&◌, Some, OnOk, OnErr}
 use Rattle.sqlite_rules.proofs.ListLemmas.{all_has}
 use Rattle.sqlite_trees.proofs.ListLemmas.{all_of, filter_all, map-map}
+use Rattle.std.specs.List.{list_any}
 use Rattle.std.specs.List.Sorted.{IsPermutation}
-use Rattle.std.proofs.lemmas.Bool.{and_parts, cases_Bool}
+use Rattle.std.proofs.lemmas.Bool.{cases_Bool, eqb-true, false_from_ne_true}
 use Rattle.std.proofs.lemmas.List.Sorted.{IsPermutation-sym}
 use Rattle.sqlite.specs.Effect.{Database, IsDatabase}
 use Rattle.sqlite.specs.Order.{Row, column}
@@ -22,10 +23,10 @@ use Rattle.fax_tables.specs.declared.fault.StoreFault.TheVariants.{Strange, Unav
 use Rattle.fax_tables.specs.Row.{number, meta_row, raised}
 use Rattle.fax_schema.specs.ByRowid.{IsByRowid}
 use Rattle.fax_schema.specs.Schema as schema
-use Rattle.fax_schema.specs.Schema.{AreOurs, alike_list, first_list, second_list, has_floors, no_tables, our_tables, calls_tree, meta_tree, core_tables}
+use Rattle.fax_schema.specs.Schema.{AreOurs, added_list, alike_list, first_list, has_floors, has_times, no_tables, our_tables, calls_tree, core_tables, down_tree, floors_tree, grants_tree, holds_tree, jobs_tree, meta_tree, replies_tree, times_tree}
 use Rattle.fax_schema.specs.declared.way.Way.{Way}
-use Rattle.fax_tables.specs.Tables.{GoesOn, HasEmptyTables, HasNewCalls, HasVersion, IsAtRest, Renews, RowsMean, TablesMean, meta_as, second_in, version_of, versions}
-use Rattle.fax_tables.proofs.CreateLemmas.{commit_kept, goes_on, none_at_first, refused_keeps, second_there, inside_shown}
+use Rattle.fax_tables.specs.Tables.{GoesOn, HasEmptyTables, HasNewCalls, HasVersion, IsAtRest, Renews, RowsMean, TablesMean, added_in, grants_as, grants_in, has_added, is_job, meta_as, meta_in, time_made, times_as, times_in, version_of, versions}
+use Rattle.fax_tables.proofs.CreateLemmas.{added_none, added_there, commit_kept, goes_on, none_at_first, refused_keeps}
 use Rattle.fax_tables.proofs.StopLemmas.{nothing_then}
 use Rattle.fax_tables.proofs.TablesLemmas.{same_database}
 use Rattle.fax_tables.specs.Stop.{HoldsBack}
@@ -33,7 +34,7 @@ use Rattle.fax_schema.proofs.RowsLemmas.{not_ours, all_front, all_given, all_map
 use Rattle.fax_schema.proofs.SelectLemmas.{answers}
 use Rattle.sqlite_schema.specs.declared.schema.Schema.{Schema}
 use Rattle.sqlite_schema.specs.declared.schema.Table.{Table}
-use Rattle.fax_store.specs.Adopt.{Adopts, AreAdopted, AreOnTheWay, AreTaken, Founds, HasBecome, HasNone, HoldsCanBeCalled, IsAdoptable, IsFilled, IsIn, IsOurs, IsRaisable, IsRaisableFrom, IsTakeable, IsTaken, MeansAs, QueuesAreTakeable, Settles, Takes, Turns, CoreMeans, HoldJobs, IsSettled, IsWhole}
+use Rattle.fax_store.specs.Adopt.{Adopts, AreAdopted, AreOnTheWay, AreTaken, Founds, HasBecome, HasNone, HasNoStrays, HasThird, HasTimes, HoldsCanBeCalled, IsAdoptable, IsFilled, IsIn, IsOurs, IsRaisable, IsTakeable, IsTaken, IsUntimed, MeansAs, QueuesAreTakeable, Settles, Takes, Turns, CoreMeans, HoldJobs, IsSettled, IsWhole}
 use Rattle.fax_store.specs.Store.{CommitsNothing, GoesBack, MayMake, RowsFound, Serves, HasRun, LeavesCommit}
 use Rattle.fax_store.proofs.ControlLemmas.{begins, commits}
 use Rattle.fax_store.proofs.HeldLemmas.{held_still, rows_callable}
@@ -54,6 +55,8 @@ use Rattle.sqlite_schema.specs.declared.schema.Constraint.TheVariants.{Datatype}
 use Rattle.sqlite_schema.specs.declared.schema.Kind.TheVariants.{Integer}
 use Rattle.fax_schema.proofs.CompareLemmas.{cast_int, cast_null, same_row}
 use Rattle.fax_schema.proofs.UpdateLemmas.{program_of, updated}
+use Rattle.fax_store.proofs.TimedLemmas.{typed, typed_same}
+use Rattle.fax_store.proofs.TurnLemmas.{Leaves, leaves_by, only_at, only_by}
 use Rattle.fax_schema.proofs.WriteLemmas.{KeepsOthers, unreferred, updates}
 use Rattle.sqlite.proofs.InsideLemmas.{unchanged_keeps}
 
@@ -156,12 +159,27 @@ none_still a b has same = record {
 }
 
 -- the rows that are alike in each version stay
-alike : (db after : Database) → Renews db after → KeepsRows alike_list db.trees after.trees
-alike db after renews = all_front (λ t. after.trees t.tree ≡ db.trees t.tree) alike_list (schema.meta ∷ []) renews.rows
+alike : (a b : Trees) → KeepsRows first_list a b → KeepsRows alike_list a b
+alike a b rows = (rows.0, (rows.1.1.0, (rows.1.1.1.0, (rows.1.1.1.1.0, tt))))
 
--- tables with floors are of the second version
-second : (db : Database) → has_floors db.schema ≡ true → version_of db.schema ≢ 1
-second db there is = let two : version_of db.schema ≡ 2 = rw there refl in absurd (let e : 2 ≡ 1 = sym two ∙ is in omega arith)
+-- ---- what the third version has of the same rows
+
+grants_alike : (version : ℕ) (a b : Trees) → a jobs_tree ≡ b jobs_tree → a grants_tree ≡ b grants_tree → grants_as version a ≡ grants_as version b
+grants_alike version a b = ap₂ (λ jobs grants. if version == 3 then grants else filter (λ grant. is_job jobs (column grant 2)) grants)
+
+-- the times that were kept count in the third version alone
+times_alike : (version : ℕ) (a b : Trees) → (version ≡ 3 → a times_tree ≡ b times_tree) → a jobs_tree ≡ b jobs_tree → a meta_tree ≡ b meta_tree → times_as version a ≡ times_as version b
+times_alike version a b times jobs meta = elim (cases_Bool (version == 3)) [
+  | inl on ↦ rw on (times (eqb-true version 3 on))
+  | inr off ↦ rw off (ap₂ (λ js ms. map (λ job. time_made (get_or (map (λ row. column row 2) ms) 0 Null) (column job 0) (column job 18)) js) jobs meta)
+]
+
+-- tables without times aren't of the third version
+untimed_first : (s : Schema) → has_times s ≡ false → version_of s ≡ 3 → ⊥
+untimed_first s none is = elim (cases_Bool (has_floors s)) [
+  | inl on ↦ (let two : version_of s ≡ 2 = rw (none, on) refl in absurd (let e : 2 ≡ 3 = sym two ∙ is in omega arith))
+  | inr off ↦ (let one : version_of s ≡ 1 = rw (none, off) refl in absurd (let e : 1 ≡ 3 = sym one ∙ is in omega arith))
+]
 
 -- a refusal that keeps the last commit, and commits nothing
 pub takes_refused : (Made : Database → State → Type 0) (Left : Database → Trees → Type 0) (Fit : Database → Type 0) (old new : State)
@@ -214,20 +232,43 @@ module _ (way : Way) (s0 s1 s2 : State) (begun : HasBegun (AreOnTheWay way) s0 s
 
       module _ (clean : HasCleanDisk s2) where
         still_alike : KeepsRows alike_list s0.now.trees s2.now.trees
-        still_alike = alike s0.now s2.now (same_rows clean)
+        still_alike = alike s0.now.trees s2.now.trees (same_rows clean).rows
 
-        -- meta has the rows that it had
-        same_meta : s2.now.trees meta_tree ≡ s0.now.trees meta_tree
-        same_meta = at_tree (λ tree. s2.now.trees tree ≡ s0.now.trees tree) first_list meta_tree refl (same_rows clean).rows
+        -- a table of the first version has the rows that it had
+        same_at : (tree : ℕ) → list_any (λ t. t.tree == tree) first_list ≡ true → s2.now.trees tree ≡ s0.now.trees tree
+        same_at tree there = at_tree (λ t. s2.now.trees t ≡ s0.now.trees t) first_list tree there (same_rows clean).rows
 
-        -- and the versions
+        -- and one of a later version, none where there was no such table
+        same_added : (tree : ℕ) → has_added our_tables tree ≡ true → list_any (λ t. t.tree == tree) added_list ≡ true → s2.now.trees tree ≡ added_in s0.now tree
+        same_added tree has there = sym (added_there s2.now our_tables tree (renewed clean).schema_is has) ∙ at_tree (λ t. added_in s2.now t ≡ added_in s0.now t) added_list tree there (same_rows clean).added
+
+        -- meta has the versions that it had
         same_versions : versions s2.now ≡ versions s0.now
-        same_versions = ap (map (λ r. column r 5)) same_meta
+        same_versions = ap (map (λ r. column r 5)) (same_at meta_tree refl)
 
-        -- the tables of the second version have the rows that they had, none where there were no such tables
-        same_second : KeepsRows second_list (second_in s0.now) s2.now.trees
-        same_second = all_mapped (λ t. second_in s2.now t.tree ≡ second_in s0.now t.tree) (λ t. s2.now.trees t.tree ≡ second_in s0.now t.tree) second_list
-            (λ t same. sym (second_there s2.now our_tables t.tree (renewed clean).schema_is refl) ∙ same) (same_rows clean).second
+        -- the times that were kept are there
+        same_times : version ≡ 3 → s2.now.trees times_tree ≡ s0.now.trees times_tree
+        same_times third = elim (cases_Bool (has_times s0.now.schema)) [
+          | inl there ↦ same_added times_tree refl refl ∙ added_there s0.now s0.now.schema times_tree refl there
+          | inr none ↦ absurd (untimed_first s0.now.schema none (sym is ∙ third))
+        ]
+
+        -- in an earlier version there were none
+        still_untimed : IsUntimed version s2.now
+        still_untimed = elim (cases_Bool (has_times s0.now.schema)) [
+          | inl there ↦ inl (is ∙ rw there refl)
+          | inr none ↦ inr (same_added times_tree refl refl ∙ added_none s0.now s0.now.schema times_tree refl none)
+        ]
+
+        -- so the third version has the same of both
+        same_grants_as : grants_as version s2.now.trees ≡ grants_in s0.now
+        same_grants_as = grants_alike version s2.now.trees s0.now.trees (same_at jobs_tree refl) (same_at grants_tree refl) ∙ ap (λ v. grants_as v s0.now.trees) is
+
+        same_meta_as : meta_as version (s2.now.trees meta_tree) ≡ meta_in s0.now
+        same_meta_as = ap₂ meta_as is (same_at meta_tree refl)
+
+        same_times_as : times_as version s2.now.trees ≡ times_in s0.now
+        same_times_as = times_alike version s2.now.trees s0.now.trees same_times (same_at jobs_tree refl) (same_at meta_tree refl) ∙ ap (λ v. times_as v s0.now.trees) is
 
         -- meta's one row still has the version of the tables that were found
         pub still_version : HasVersion s0.now → versions s2.now ≡ number version ∷ []
@@ -240,17 +281,22 @@ module _ (way : Way) (s0 s1 s2 : State) (begun : HasBegun (AreOnTheWay way) s0 s
         -- rows that meant a queue and kept replies still mean them, in that version
         pub still_means : (m : Queue) (k : Ledger) → RowsMean s0.now m k → MeansAs version s2.now m k
         still_means m k mean = record {
+          version_is = still_version mean.version;
+          untimed = still_untimed;
+          ordered = subst IsByRowid (sym (same_at grants_tree refl)) mean.ordered;
           full = mean.full;
           means = mean.means;
           rows = kept_rows alike_list s2.now.trees s0.now.trees (mean.full).trees (kept_back alike_list s0.now.trees s2.now.trees still_alike) mean.same.rows;
-          meta = mean.same.meta ∙ ap₂ meta_as (sym is) (sym same_meta);
-          second = kept_rows second_list s2.now.trees (second_in s0.now) (mean.full).trees (kept_back second_list (second_in s0.now) s2.now.trees same_second) mean.same.second;
+          grants = mean.same.grants ∙ sym same_grants_as;
+          meta = mean.same.meta ∙ sym same_meta_as;
+          floors = mean.same.floors ∙ sym (same_added floors_tree refl refl);
+          times = mean.same.times ∙ sym same_times_as;
         }
 
-        -- meta can be raised in the one where it can in the other
-        raisable : IsRaisable s0.now → IsRaisableFrom version s2.now
-        raisable (inl there) = inl (λ one. second s0.now there (sym is ∙ one))
-        raisable (inr by) = inr (subst IsByRowid (sym same_meta) by)
+        -- rows can be raised in the one where they can in the other
+        raisable : (tree : ℕ) → list_any (λ t. t.tree == tree) first_list ≡ true → IsRaisable (version_of s0.now.schema) (s0.now.trees tree) → IsRaisable version (s2.now.trees tree)
+        raisable tree there (inl third) = inl (is ∙ third)
+        raisable tree there (inr by) = inr (subst IsByRowid (sym (same_at tree there)) by)
 
       -- then the calls are counted
       module _ (s3 : State) where
@@ -280,12 +326,14 @@ module _ (way : Way) (s0 s1 s2 : State) (begun : HasBegun (AreOnTheWay way) s0 s
 
           -- once filled, it has all tables, with the rows that it had
           is_taken : HasCleanDisk s3 → IsTaken s0.now s3.now
-          is_taken clean = let at = fills.clean clean in let it = (filled clean).1 in record {
-            schema_is = it.schema_is;
-            sound = it.sound;
-            rows = kept_rows alike_list s0.now.trees s2.now.trees s3.now.trees (still_alike at) it.rows;
-            meta = λ can. it.meta (raisable at can) ∙ ap₂ meta_as is (same_meta at);
-            second = kept_rows second_list (second_in s0.now) s2.now.trees s3.now.trees (same_second at) it.second;
+          is_taken clean = let at = fills.clean clean in let it = (filled clean).1 in let third = it.third in record {
+            schema_is = third.schema_is;
+            sound = third.sound;
+            rows = kept_rows alike_list s0.now.trees s2.now.trees s3.now.trees (still_alike at) third.rows;
+            grants = λ can. third.grants (raisable at grants_tree refl can) ∙ same_grants_as at;
+            meta = λ can. third.meta (raisable at meta_tree refl can) ∙ same_meta_as at;
+            floors = third.floors ∙ same_added at floors_tree refl refl;
+            times = λ can. third.times it.version_is (still_untimed at) (raisable at jobs_tree refl can) ∙ same_times_as at;
           }
 
           module _ (s4 : State) where
@@ -381,12 +429,15 @@ means_rows db m k means = (
   inl means.schema,
   record {
     version = ap (map (λ r. column r 5)) means.meta ∙ ap (λ s. number (version_of s) ∷ []) (sym means.schema);
+    ordered = means.ordered.grants;
     full = db;
     means = means;
     same = record {
       rows = all_given (λ t. db.trees t.tree ≡ db.trees t.tree) alike_list (λ t. refl);
+      grants = ap (λ s. grants_as (version_of s) db.trees) (sym means.schema);
       meta = ap (λ s. meta_as (version_of s) (db.trees meta_tree)) (sym means.schema);
-      second = all_given (λ t. db.trees t.tree ≡ second_in db t.tree) second_list (λ t. sym (second_there db our_tables t.tree means.schema refl));
+      floors = sym (added_there db our_tables floors_tree means.schema refl);
+      times = ap (λ s. times_as (version_of s) db.trees) (sym means.schema);
     };
   },
 )
@@ -395,49 +446,15 @@ means_rows db m k means = (
 pub queues_are_takeable : QueuesAreTakeable
 queues_are_takeable db m k ours mean = record { schema_is = ours; version = mean.version; held = rows_callable db m k (mean.full, mean.means, kept_back alike_list db.trees (mean.full).trees mean.same.rows) }
 
--- ---- a value of its type is stored as it is
-
--- a value of the type of integers is stored as it is
-typed_same : (v : Value) → is_of Integer v ≡ true → cast Integer v ≡ v
-typed_same Null h = cast_null
-typed_same (Int n) h = cast_int n
-typed_same (Real x) h = absurd cc
-typed_same (Text t) h = absurd cc
-typed_same (Blob b) h = absurd cc
-
--- the clock and next numbers of a row
-record AreTyped (r : Row) : Type 0 where
-  clock : is_of Integer (column r 2) ≡ true
-  next_job : is_of Integer (column r 3) ≡ true
-  next_grant : is_of Integer (column r 4) ≡ true
-
-two : {a b : Bool} → (a && b) ≡ true → (a ≡ true) × (b ≡ true)
-two {a} {b} h = and_parts a b h
-
--- a row of meta that keeps its types has integers for its clock and next numbers
-row_typed : (r : Row) → are_typed (Some 0) 0 schema.meta.columns (drop 1 r) ≡ true → AreTyped r
-row_typed [] h = record { clock = refl; next_job = refl; next_grant = refl }
-row_typed (i ∷ []) h = record { clock = refl; next_job = refl; next_grant = refl }
-row_typed (i ∷ a ∷ []) h = record { clock = refl; next_job = refl; next_grant = refl }
-row_typed (i ∷ a ∷ b ∷ []) h = record { clock = (two (two h).1).0; next_job = refl; next_grant = refl }
-row_typed (i ∷ a ∷ b ∷ c ∷ []) h = let more = two (two h).1 in record { clock = more.0; next_job = (two more.1).0; next_grant = refl }
-row_typed (i ∷ a ∷ b ∷ c ∷ d ∷ rest) h = let more = two (two h).1 in let last = two more.1 in record { clock = more.0; next_job = last.0; next_grant = (two last.1).0 }
-
 -- ---- the text
 
 module _ (old new : State) (has : HasNone old) (ran : HasRun UPDATE_VERSION.now [] old new) where
-  -- each row of meta has them
-  typed : (r : Row) → Has (old.now.trees meta_tree) r → AreTyped r
-  typed r there =
-      let keeps : Keeps Datatype our_tables old.now.trees = subst (λ s. Keeps Datatype s old.now.trees) has.schema_is (has.sound.obeys.rules Datatype) in
-      row_typed r (two (all_has (λ row. obeys Datatype our_tables old.now.trees schema.meta row ≡ true) (old.now.trees meta_tree) r keeps.1.1.1.1.1.0 there)).0
-
-  -- so a raised row is stored as it is
-  stored : IsByRowid (old.now.trees meta_tree) → (r : Row) → Has (old.now.trees meta_tree) r → cast_row schema.meta (column r 0 ∷ Null ∷ column r 2 ∷ column r 3 ∷ column r 4 ∷ number 2 ∷ []) ≡ raised r
+  -- a raised row is stored as it is
+  stored : IsByRowid (old.now.trees meta_tree) → (r : Row) → Has (old.now.trees meta_tree) r → cast_row schema.meta (column r 0 ∷ Null ∷ column r 2 ∷ column r 3 ∷ column r 4 ∷ number 3 ∷ []) ≡ raised r
   stored by r there =
-      let it = typed r there in
+      let it = typed old has r there in
       let id : cast Integer (column r 0) ≡ column r 0 = rw (int_is (column r 0) (all_has (λ x. IsTrue (is_int (rowid x))) (old.now.trees meta_tree) r by.integers there)) (cast_int _) in
-      same_row id (same_row cast_null (same_row (typed_same (column r 2) it.clock) (same_row (typed_same (column r 3) it.next_job) (same_row (typed_same (column r 4) it.next_grant) (same_row (cast_int (pos 2)) refl)))))
+      same_row id (same_row cast_null (same_row (typed_same (column r 2) it.clock) (same_row (typed_same (column r 3) it.next_job) (same_row (typed_same (column r 4) it.next_grant) (same_row (cast_int (pos 3)) refl)))))
 
   -- the text raises each row of meta, and touches meta alone
   ran_as : IsByRowid (old.now.trees meta_tree) → KeepsOthers our_tables meta_tree old new × (new.now.trees meta_tree ≡ map raised (old.now.trees meta_tree))
@@ -453,35 +470,87 @@ module _ (old new : State) (has : HasNone old) (ran : HasRun UPDATE_VERSION.now 
       (updates our_tables unreferred schema.meta.name meta_tree schema.meta.columns schema.meta.key schema.meta.primary schema.meta.uniques schema.meta.orders schema.meta.checks 5 refl old new has.schema_is [] _ ran.0 (program_of meta_tree [] raise_project)
       (runs_as UPDATE_VERSION.now [] old new our_tables has.schema_is _ update_version.is update_version.plain ran.0 ran.1)).2.keeps
 
-  -- the rows of another table than meta stay
-  abbrev Other : Table → Type 0
-  Other t = t.tree ≢ meta_tree → new.now.trees t.tree ≡ old.now.trees t.tree
+  -- so meta has the third version
+  pub version_raised : KeepsOthers our_tables meta_tree old new × HasThird old.now new.now
+  version_raised = (keeps, record { only = only_by meta_tree old new keeps; raised = λ by. (ran_as by).1 })
 
-  -- where the version was 1, it is settled as the second
-  pub version_raised : versions old.now ≡ number 1 ∷ [] → GoesOn old new × IsSettled 1 old.now new.now
-  version_raised was = (
-    inside_shown old new _ has.inside keeps.shown,
+-- ---- the version is settled
+
+-- neither dropping strays nor putting in times counts a call
+pub strays_leaves : Leaves HasNone HasNoStrays HasNone
+strays_leaves = leaves_by grants_tree (λ e. absurd (omega arith)) (λ a b strays. strays.only)
+
+pub times_leave : Leaves HasNone HasTimes HasNone
+times_leave = leaves_by times_tree (λ e. absurd (omega arith)) (λ a b times. times.only)
+
+-- the third is settled as it is
+pub settled_third : (version : ℕ) (db : Database) → version ≡ 3 → db.schema ≡ our_tables → IsDatabase db → IsSettled version db db
+settled_third version db three ours sound =
+    let at : (version == 3) ≡ true = ap (λ n. n == 3) three in (
+      record {
+        schema_is = ours;
+        sound = sound;
+        rows = all_given (λ t. db.trees t.tree ≡ db.trees t.tree) alike_list (λ t. refl);
+        grants = λ can. rw at refl;
+        meta = λ can. rw at refl;
+        floors = refl;
+        times = λ was none can. rw at refl;
+      },
+      refl,
+    )
+
+-- an earlier version is settled once the strays are gone, all jobs have their times, and meta has the third version
+module _ (version : ℕ) (a b c d : Database) (earlier : version ≢ 3) (strays : HasNoStrays a b) (times : HasTimes b c) (third : HasThird c d) where
+  not_third : (version == 3) ≡ false
+  not_third = false_from_ne_true (version == 3) (λ on. earlier (eqb-true version 3 on))
+
+  -- another table has the rows that it had
+  stays_at : (tree : ℕ) → list_any (λ t. t.tree == tree) our_tables.tables ≡ true → tree ≢ grants_tree → tree ≢ times_tree → tree ≢ meta_tree → d.trees tree ≡ a.trees tree
+  stays_at tree there grants other meta = only_at meta_tree c d tree there meta third.only ∙ only_at times_tree b c tree there other times.only ∙ only_at grants_tree a b tree there grants strays.only
+
+  by_rowid : (rows : List Row) → IsRaisable version rows → IsByRowid rows
+  by_rowid rows (inl three) = absurd (earlier three)
+  by_rowid rows (inr by) = by
+
+  jobs_kept : b.trees jobs_tree ≡ a.trees jobs_tree
+  jobs_kept = only_at grants_tree a b jobs_tree refl (λ e. absurd (omega arith)) strays.only
+
+  meta_kept : b.trees meta_tree ≡ a.trees meta_tree
+  meta_kept = only_at grants_tree a b meta_tree refl (λ e. absurd (omega arith)) strays.only
+
+  times_kept : b.trees times_tree ≡ a.trees times_tree
+  times_kept = only_at grants_tree a b times_tree refl (λ e. absurd (omega arith)) strays.only
+
+  pub settled_earlier : IsSettled version a d
+  settled_earlier = (
     record {
-      was = was;
-      schema_is = keeps.schema_is;
-      sound = keeps.sound;
-      rows = others_kept alike_list meta_tree old.now.trees new.now.trees refl (all_front Other alike_list (schema.meta ∷ (second_list ++ (schema.calls ∷ []))) keeps.others);
-      meta = λ can. elim can [ inl other ↦ absurd (other refl) | inr by ↦ (ran_as by).1 ];
-      second = others_kept second_list meta_tree old.now.trees new.now.trees refl (all_front Other second_list (schema.calls ∷ []) (all_behind Other first_list (second_list ++ (schema.calls ∷ [])) keeps.others));
-      none = at_tree (λ tree. tree ≢ meta_tree → new.now.trees tree ≡ old.now.trees tree) our_tables.tables calls_tree refl keeps.others (λ e. absurd (omega arith)) ∙ has.none;
+      schema_is = third.only.schema_is;
+      sound = third.only.sound;
+      rows = (
+        stays_at jobs_tree refl (λ e. absurd (omega arith)) (λ e. absurd (omega arith)) (λ e. absurd (omega arith)),
+        (
+          stays_at holds_tree refl (λ e. absurd (omega arith)) (λ e. absurd (omega arith)) (λ e. absurd (omega arith)),
+          (
+            stays_at down_tree refl (λ e. absurd (omega arith)) (λ e. absurd (omega arith)) (λ e. absurd (omega arith)),
+            (stays_at replies_tree refl (λ e. absurd (omega arith)) (λ e. absurd (omega arith)) (λ e. absurd (omega arith)), tt),
+          ),
+        ),
+      );
+      grants = λ can.
+          let still = only_at meta_tree c d grants_tree refl (λ e. absurd (omega arith)) third.only ∙ only_at times_tree b c grants_tree refl (λ e. absurd (omega arith)) times.only in
+          still ∙ strays.left (by_rowid (a.trees grants_tree) can) ∙ rw not_third refl;
+      meta = λ can.
+          let same = only_at times_tree b c meta_tree refl (λ e. absurd (omega arith)) times.only ∙ meta_kept in
+          third.raised (subst IsByRowid (sym same) (by_rowid (a.trees meta_tree) can)) ∙ ap (map raised) same ∙ rw not_third refl;
+      floors = stays_at floors_tree refl (λ e. absurd (omega arith)) (λ e. absurd (omega arith)) (λ e. absurd (omega arith));
+      times = λ was untimed can.
+          let none : a.trees times_tree ≡ [] = elim untimed [ inl three ↦ absurd (earlier three) | inr none ↦ none ] in
+          only_at meta_tree c d times_tree refl (λ e. absurd (omega arith)) third.only
+          ∙ times.made (number version) (ap (map (λ r. column r 5)) meta_kept ∙ was) (times_kept ∙ none) (subst IsByRowid (sym jobs_kept) (by_rowid (a.trees jobs_tree) can))
+          ∙ times_alike 1 b.trees a.trees (λ e. absurd (omega arith)) jobs_kept meta_kept ∙ rw not_third refl;
     },
+    stays_at calls_tree refl (λ e. absurd (omega arith)) (λ e. absurd (omega arith)) (λ e. absurd (omega arith)),
   )
-
--- the text, behind the test of the version
-pub raised_by : (version : ℕ) (old mid new : State) (result : Result (Unit {0}) StoreFault) → version ≡ 1 → HasNone old → versions old.now ≡ number version ∷ [] → IsUnchanged old mid
-    → OnOk result (HasRun UPDATE_VERSION.now [] mid new) → OnErr result (LeavesCommit mid new) → MatchResult result (λ _. GoesOn old new × IsSettled version old.now new.now) (λ _. KeepsCommit old new)
-raised_by version old mid new (Ok done) one has was same ran left =
-    let still : GoesOn old mid = record { was_open = has.is_open; is_open = same.0.is_open; now_is = refl; committed_is = same.0.committed_is; mode = same.0.mode ∙ has.inside } in
-    let first : versions mid.now ≡ number 1 ∷ [] = ap (λ (d : Database). versions d) same.0.now_is ∙ was ∙ ap (λ n. number n ∷ []) one in
-    let it = version_raised mid new (none_still old mid has same) ran first in
-    (goes_on old mid new still it.0, subst (λ (v : ℕ). IsSettled v old.now new.now) (sym one) (subst (λ (d : Database). IsSettled 1 d new.now) same.0.now_is it.1))
-raised_by version old mid new (Err e) one has was same ran left =
-    commit_kept old mid new (record { was_open = has.is_open; is_open = same.0.is_open; now_is = refl; committed_is = same.0.committed_is; mode = same.0.mode ∙ has.inside }) (unchanged_keeps mid new left)
 
 -- ---- what the rows mean
 
@@ -492,52 +561,59 @@ by_raised m (r ∷ s ∷ rows) e = absurd cc
 by_raised m (r ∷ []) e = let id : number 1 ≡ column r 0 = cc in record { rise = (tt, tt); integers = (subst (λ v. IsTrue (is_int v)) id refl, tt) }
 
 -- a meta of which the rows mean a queue can be raised
-can_raise : (version : ℕ) (db : Database) (m : Queue) (k : Ledger) → MeansAs version db m k → IsRaisableFrom version db
-can_raise version db m k mean = elim (cases_Bool (version == 1)) [
-  | inl one ↦ inr (by_raised m (db.trees meta_tree) (sym mean.means.meta ∙ mean.meta ∙ rw one refl))
-  | inr off ↦ inl (λ is. absurd (let on : (version == 1) ≡ true = rw is refl in cc))
+can_raise : (version : ℕ) (db : Database) (m : Queue) (k : Ledger) → MeansAs version db m k → IsRaisable version (db.trees meta_tree)
+can_raise version db m k mean = elim (cases_Bool (version == 3)) [
+  | inl on ↦ inl (eqb-true version 3 on)
+  | inr off ↦ inr (by_raised m (db.trees meta_tree) (sym mean.means.meta ∙ mean.meta ∙ rw off refl))
 ]
 
 -- what the rows mean, they mean once the version is settled
 pub settled_means : (version : ℕ) (db after : Database) (m : Queue) (k : Ledger) → IsSettled version db after → MeansAs version db m k → CoreMeans after m k
 settled_means version db after m k settled mean =
-    let full = (mean.full).trees in
-    let meta : after.trees meta_tree ≡ full meta_tree = settled.meta (can_raise version db m k mean) ∙ sym mean.meta in
-    let Same = λ (t : Table). after.trees t.tree ≡ full t.tree in
-    let alike = kept_rows alike_list full db.trees after.trees (kept_back alike_list db.trees full mean.rows) settled.rows in
-    let second = kept_rows second_list full db.trees after.trees (kept_back second_list db.trees full mean.second) settled.second in
-    (mean.full, mean.means, all_both Same first_list second_list (all_both Same alike_list (schema.meta ∷ []) alike (meta, tt)) second)
-
--- the tables are there without a call counted
-pub settled_none : (version : ℕ) (old new : State) → GoesOn old new → IsSettled version old.now new.now → HasNone new
-settled_none version old new on settled = record { is_open = on.is_open; inside = on.mode; schema_is = settled.schema_is; sound = settled.sound; none = settled.none }
-
--- each hold has its job in the one where it has in the other
-held_before : (a b : Database) → KeepsRows alike_list a.trees b.trees → HoldJobs b → HoldJobs a
-held_before a b kept held hold there =
-    let it = held hold (subst (λ rows. Has rows hold) (sym kept.1.1.0) there) in
-    (it.0, subst (λ rows. Has rows it.0) kept.0 it.1, it.2)
-
--- the version is settled, the holds are tested, and the calls are counted
-pub filled_by : (version : ℕ) (s0 s1 s2 s3 : State) → GoesOn s0 s1 → IsSettled version s0.now s1.now → HoldJobs s1.now → IsUnchanged s1 s2 → GoesOn s2 s3 → IsWhole s2.now s3.now → GoesOn s0 s3 × IsFilled version s0.now s3.now
-filled_by version s0 s1 s2 s3 on settled held same next whole =
-    let still : GoesOn s1 s2 = record { was_open = on.is_open; is_open = same.0.is_open; now_is = refl; committed_is = same.0.committed_is; mode = same.0.mode ∙ on.mode } in
-    let w : KeepsRows core_tables.tables s1.now.trees s3.now.trees = subst (λ (d : Database). KeepsRows core_tables.tables d.trees s3.now.trees) same.0.now_is whole.rows in
-    let Same = λ (t : Table). s3.now.trees t.tree ≡ s1.now.trees t.tree in
-    let first = all_front Same first_list second_list w in (
-      goes_on s0 s1 s3 on (goes_on s1 s2 s3 still next),
-      record {
-        version_is = settled.was;
-        held = held_before s0.now s1.now settled.rows held;
-        schema_is = whole.schema_is;
-        sound = whole.sound;
-        rows = kept_rows alike_list s0.now.trees s1.now.trees s3.now.trees settled.rows (all_front Same alike_list (schema.meta ∷ []) first);
-        meta = λ can. at_tree (λ tree. s3.now.trees tree ≡ s1.now.trees tree) first_list meta_tree refl first ∙ settled.meta can;
-        second = kept_rows second_list s0.now.trees s1.now.trees s3.now.trees settled.second (all_behind Same first_list second_list w);
-      },
+    let third = settled.0 in
+    let jobs : IsByRowid (db.trees jobs_tree) = subst IsByRowid mean.rows.0 mean.means.ordered.jobs in (
+      mean.full,
+      mean.means,
+      (
+        third.rows.0 ∙ sym mean.rows.0,
+        (
+          third.grants (inr mean.ordered) ∙ sym mean.grants,
+          (
+            third.rows.1.0 ∙ sym mean.rows.1.0,
+            (
+              third.rows.1.1.0 ∙ sym mean.rows.1.1.0,
+              (
+                third.rows.1.1.1.0 ∙ sym mean.rows.1.1.1.0,
+                (
+                  third.meta (can_raise version db m k mean) ∙ sym mean.meta,
+                  (third.floors ∙ sym mean.floors, (third.times mean.version_is mean.untimed (inr jobs) ∙ sym mean.times, tt)),
+                ),
+              ),
+            ),
+          ),
+        ),
+      ),
     )
 
--- where counting the calls keeps the commit, so does all from the begin on
-pub kept_by : (s0 s1 s2 s3 : State) → GoesOn s0 s1 → IsUnchanged s1 s2 → HasNone s1 → KeepsCommit s2 s3 → KeepsCommit s0 s3
-kept_by s0 s1 s2 s3 on same has kept =
-    commit_kept s0 s1 s3 on (commit_kept s1 s2 s3 (record { was_open = on.is_open; is_open = same.0.is_open; now_is = refl; committed_is = same.0.committed_is; mode = same.0.mode ∙ has.inside }) kept)
+-- the tables are there without a call counted
+pub settled_none : (version : ℕ) → Leaves HasNone (IsSettled version) HasNone
+settled_none version old new was on settled = record { is_open = on.is_open; inside = on.mode; schema_is = settled.0.schema_is; sound = settled.0.sound; none = settled.1 ∙ was.none }
+
+-- the version and the holds are tested, the version is settled, and the calls are counted
+pub filled_by : (version : ℕ) (a b c : Database) → versions a ≡ number version ∷ [] → HoldJobs a → IsSettled version a b → IsWhole b c → IsFilled version a c
+filled_by version a b c was held settled whole =
+    let third = settled.0 in
+    let at = λ (tree : ℕ). at_tree (λ t. c.trees t ≡ b.trees t) core_tables.tables tree in
+    record {
+      version_is = was;
+      held = held;
+      third = record {
+        schema_is = whole.schema_is;
+        sound = whole.sound;
+        rows = kept_rows alike_list a.trees b.trees c.trees third.rows (at jobs_tree refl whole.rows, (at holds_tree refl whole.rows, (at down_tree refl whole.rows, (at replies_tree refl whole.rows, tt))));
+        grants = λ can. at grants_tree refl whole.rows ∙ third.grants can;
+        meta = λ can. at meta_tree refl whole.rows ∙ third.meta can;
+        floors = at floors_tree refl whole.rows ∙ third.floors;
+        times = λ was untimed can. at times_tree refl whole.rows ∙ third.times was untimed can;
+      };
+    }

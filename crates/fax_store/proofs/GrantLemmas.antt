@@ -41,7 +41,7 @@ use Rattle.fax_tables.specs.Place.{placed}
 use Rattle.fax_schema.specs.Schema as schema
 use Rattle.fax_schema.specs.ByRowid.{IsByRowid}
 use Rattle.fax_schema.proofs.AppendLemmas.{appended}
-use Rattle.fax_store.proofs.JobLemmas.{all_mapped}
+use Rattle.fax_store.proofs.NumberedLemmas.{all_mapped}
 use Rattle.fax_store.proofs.CountLemmas.{calls_reported, closed_count, has_placed, jobs_reported, jobs_shut, one, one_less, one_more, placed_count, shut as shut_at, unmoved}
 use Rattle.fax_schema.proofs.ColumnLemmas.{kept_permuted, record_of, all_kept, row_of}
 use Rattle.fax_tables.proofs.FreeLemmas.{free_row, none_found}

@@ -74,11 +74,11 @@ each_none f [] none = refl
 each_none f (x ∷ xs) none = ap₂ ◌++◌ (none x (inl refl)) (each_none f xs (λ y has. none y (inr has)))
 
 -- SQL's v IS NULL
-abbrev lost_value : Value → Bool
+abbrev pub lost_value : Value → Bool
 lost_value v = is_true (binary (Is Binary) v Null)
 
 -- SQL's v IS NULL is true of NULL alone
-is_lost : (v : Value) → lost_value v ≡ is_null v
+pub is_lost : (v : Value) → lost_value v ≡ is_null v
 unfolding binary value_cmp lib.Ieee.is_nan lib.Ieee.lt
 is_lost Null = refl
 is_lost _ = refl
@@ -90,10 +90,10 @@ not_lost a b h = false_from_ne_true (is_null a) (λ on. absurd (let no = rw on a
 
 -- with the jobs that a hold is of, or with none
 module _ (jobs : List Row) (r : Row) where
-  abbrev its : List Row
+  abbrev pub its : List Row
   its = filter (λ s. list_all (holds ([] ∷ r ∷ s ∷ [])) lost_on) jobs
 
-  abbrev lost : List Row → List Env
+  abbrev pub lost : List Row → List Env
   lost found = flat_map (λ s. cond (list_all (holds ([] ∷ r ∷ s ∷ [])) lost_tests) (([] ∷ r ∷ s ∷ []) ∷ []) []) (or_nulls found)
 
   -- where a hold shows no row as lost, its job is there
@@ -106,7 +106,7 @@ module _ (jobs : List Row) (r : Row) where
       (s, one.0, (and_parts _ _ one.1).0)
 
   -- and where its job is there, it shows none
-  not_there : (found : List Row) → its ≡ found → (job : Row) → Has jobs job → IsOf (column r 2) job → lost found ≡ []
+  pub not_there : (found : List Row) → its ≡ found → (job : Row) → Has jobs job → IsOf (column r 2) job → lost found ≡ []
   not_there [] is job has of = absurd (subst (λ rows. Has rows job) is (has_kept (λ s. list_all (holds ([] ∷ r ∷ s ∷ [])) lost_on) jobs job has (ap (λ b. b && true) of)))
   not_there (s ∷ more) is job has of =
       each_none (λ s. cond (list_all (holds ([] ∷ r ∷ s ∷ [])) lost_tests) (([] ∷ r ∷ s ∷ []) ∷ []) []) (s ∷ more)
@@ -340,7 +340,7 @@ called_still a b same n can = record {
 
 -- where the rows stay, holds that can be called still can
 pub held_still : (a b : Database) → KeepsRows alike_list a.trees b.trees → HoldsCanBeCalled a → HoldsCanBeCalled b
-held_still a b kept can hold has = let it = can hold (subst (λ rows. Has rows hold) kept.1.1.0 has) in (it.0, it.1, called_still a b kept.0 it.0 it.2)
+held_still a b kept can hold has = let it = can hold (subst (λ rows. Has rows hold) kept.1.0 has) in (it.0, it.1, called_still a b kept.0 it.0 it.2)
 
 -- what can be called has its job
 pub called_jobs : (db : Database) → HoldsCanBeCalled db → HoldJobs db
@@ -349,7 +349,7 @@ called_jobs db can hold has = let it = can hold has in ((it.2).job, (it.2).there
 -- in rows that mean a queue all that is held can be
 pub rows_callable : (db : Database) (m : Queue) (k : Ledger) → (full : Database) × TablesMean full m k × KeepsRows alike_list full.trees db.trees → HoldsCanBeCalled db
 rows_callable db m k mean hold there_is =
-    let same = subst (λ rs. IsPermutation (map hold_columns (open_grants m)) (map (drop 1) rs)) (sym mean.2.1.1.0) mean.1.holds in
+    let same = subst (λ rs. IsPermutation (map hold_columns (open_grants m)) (map (drop 1) rs)) (sym mean.2.1.0) mean.1.holds in
     let g = record_of hold_columns (db.trees holds_tree) (open_grants m) same hold there_is in
     let j = mean.1.held g.0 g.1 in
     let one = has_found (λ (x : Job). x.number == (g.0).job) m.jobs j.0 j.1 in

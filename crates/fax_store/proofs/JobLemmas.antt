@@ -1,10 +1,10 @@
 -- What the texts on jobs read and write.
-use Rattle.std.proofs.Common.{◌≡◌, ℕ, zero, suc, pos, ◌+◌, ◌-◌, ◌≤◌, List, [], ◌∷◌, ◌++◌, map, arith, false, Option, Some, None, Err, drop, refl, sym, ap, ap₂, subst, ◌∙◌, ◌<◌, inl, inr, All, Bool, true, ◌&&◌, ◌||◌, unwrap_or, if◌then◌else◌, option_map, ◌==◌, IsTrue, is_some, find, nat_le, IsUtf8}
+use Rattle.std.proofs.Common.{IsPermutation, filter, ◌≡◌, ℕ, zero, suc, pos, ◌+◌, ◌-◌, ◌≤◌, List, [], ◌∷◌, ◌++◌, map, arith, false, Option, Some, None, Err, drop, refl, sym, ap, ap₂, subst, ◌∙◌, ◌<◌, inl, inr, All, Bool, true, ◌&&◌, ◌||◌, unwrap_or, if◌then◌else◌, option_map, ◌==◌, IsTrue, is_some, find, nat_le, IsUtf8}
 use Rattle.std.specs.List.{range_with_len}
 use Rattle.std.proofs.lemmas.List.FromFn.{length-range_with_len}
 use Rattle.sqlite.specs.Effect.{Database}
 use Rattle.sqlite.specs.Order.{Row}
-use Rattle.sqlite.specs.State.{State, Executes}
+use Rattle.sqlite.specs.State.{State, Executes, Shown}
 use Rattle.sqlite.specs.Tree.{put_row, rowid, IsTable}
 use Rattle.sqlite.specs.Cast.{cast_row}
 use Rattle.sqlite.specs.Edit.{is_taken, with_rowid}
@@ -23,7 +23,14 @@ use Rattle.fax_schema.specs.Schema.{our_tables, jobs_tree}
 use Rattle.fax_tables.specs.Place.{placed}
 use Rattle.fax_tables.specs.Row.{HasValues, number, job_row, phase_number}
 use Rattle.fax_tables.specs.Job.{IsFormed, IsLawfulJob, brief_shown, job_shown, IsText}
-use Rattle.fax_store.specs.Job.{HasJobRow, IsNewJob, JobStands, BriefStands, brief_places, job_places, with_placed, IsSameOrder, IsChange, expired_in, lines_of, with_change, with_expired, with_expired_in}
+use Rattle.fax_store.specs.Job.{HasJobRow, JobStands, BriefStands, brief_places, job_places, with_placed, IsSameOrder, IsChange, expired_in, lines_of, with_set, with_expired, with_expired_in, with_failed_in}
+use Rattle.fax_store.specs.Times.{is_among, is_expired, with_ends}
+use Rattle.fax_store.proofs.NumberedLemmas.{all_mapped, both_ways_equal, number_first, numbered_rows, numbers_in}
+use Rattle.fax_core.specs.Stamp.{ended_where, ends, stamp}
+use Rattle.fax_core.specs.declared.times.Times.{Times}
+use Rattle.fax_core.proofs.DecisionLemmas.{aged_number}
+use Rattle.fax_core.proofs.PlaceLemmas.{find_map, length_map, number_found}
+use Rattle.fax_core.proofs.StampLemmas.{ends_as, ends_none, ends_twice, times_after}
 use Rattle.fax_tables.specs.Tables.{TablesMean}
 use Rattle.fax_schema.specs.ByRowid.{IsByRowid}
 use Rattle.fax_store.specs.Calls.{shown}
@@ -45,22 +52,21 @@ use Rattle.fax_schema.proofs.WriteLemmas.{KeepsOthers, unreferred, inserts}
 use Rattle.fax_schema.proofs.SelectLemmas.{passes, show, answers}
 use Rattle.fax_schema.proofs.StatementForms.{Selects}
 use Rattle.sqlite_sql.specs.Term.{Term}
-use Rattle.fax_schema.proofs.StatementTexts.{brief_names, brief_project, job_names, job_project, job_terms, job_tests, select_brief, select_job, insert_job, change_project, update_job, expired_tests, expired_project, expire_jobs, killtime_project, select_expired}
+use Rattle.fax_schema.proofs.StatementTexts.{brief_names, brief_project, job_names, job_project, job_terms, job_tests, select_brief, select_job, insert_job, change_project, update_job, expired_tests, expired_project, expire_jobs, number_project, select_expired}
 use Rattle.std.proofs.Math.Bool.{and-true}
 use Rattle.std.proofs.lemmas.Bool.{and_parts, eqb-true, eq-eqb, cond_both, cases_Bool}
-use Rattle.std.proofs.lemmas.List.Elements.{All-from_recursion, All-map, recursion_from_All}
-use Rattle.sqlite_rules.proofs.ListLemmas.{all_from, all_has}
+use Rattle.sqlite_rules.proofs.ListLemmas.{has_found, some_from, some_has}
 use Rattle.sqlite_rules.proofs.ProbeLemmas.{mapped_has}
 use Rattle.fax_core.specs.Ageing.{aged_job, expires, is_past}
 use Rattle.fax_value.specs.Status.{kill_time_expired}
 use Rattle.fax_job.specs.declared.job.Phase.{Phase}
-use Rattle.fax_job.specs.declared.job.Phase.TheVariants.{Held, Waiting, Failed}
+use Rattle.fax_job.specs.declared.job.Phase.TheVariants.{Held, Waiting, Granted, Done, Failed}
 use Rattle.fax_value.specs.Dial.{IsCanonical}
 use Rattle.fax_value.specs.JobTag.{IsJobTag}
 use Rattle.fax_value.specs.Name.{IsName}
 use Rattle.fax_job.specs.Pair.{Pair, ArePairs, are_unknown}
 use Rattle.fax_value.specs.Value.{IsStatus}
-use Rattle.fax_schema.proofs.EditLemmas.{none_shown}
+use Rattle.fax_schema.proofs.EditLemmas.{has_mapped, one_shown, shown_one}
 use Rattle.fax_schema.proofs.UpdateLemmas.{updated}
 
 module _ (n : ℕ) where
@@ -166,7 +172,7 @@ module _ (old new : State) (m : Queue) (k : Ledger) (means : TablesMean old.now 
       )
 
   -- a job of a number that none has breaks no rule
-  pub job_goes : IsNewJob (job_of f) m → (e : Error) → Executes INSERT_JOB.now (job_shown f) old new (Err e) → fault_of e ≡ Unavailable
+  pub job_goes : job_numbered f.job m ≡ None → (e : Error) → Executes INSERT_JOB.now (job_shown f) old new (Err e) → fault_of e ≡ Unavailable
   job_goes free =
       let row : row_of (job_of f) ≡ job_row f = ap job_row (fields_back f) in
       let unused : is_taken (map row_of m.jobs) (row_of (job_of f)) ≡ false = free_row row_of (λ (j : Job). j.number) (λ j. refl) (job_of f) m.jobs free in
@@ -184,11 +190,6 @@ lawful_of_fields f limits formed = record {
       ∙ range_split 1 f.npages (f.totpages - f.npages)
       ∙ ap (range_with_len 1) (let e : f.npages + (f.totpages - f.npages) ≡ f.totpages = omega arith in e);
 }
-
--- what a function keeps of each element holds of each that it makes
-pub all_mapped : {X : Type 0} (P : X → Type 0) (f : X → X) (xs : List X) → ((x : X) → Has xs x → P x → P (f x)) → All P xs → All P (map f xs)
-all_mapped P f xs keeps all = All-map P f xs (All-from_recursion (λ x. P (f x)) xs
-    (all_from (λ x. P (f x)) xs (λ x has. keeps x has (all_has P xs x (recursion_from_All P xs all) has))))
 
 -- ---- one job
 
@@ -248,7 +249,7 @@ module _ (f : JobFields) (old new : State) (m : Queue) (k : Ledger) (means : Tab
       record { order = change x there; extra = sym (ap lines_of there) }
 
   -- the text that updates a job makes the change, and touches jobs alone
-  pub job_changed : IsChange (job_of f) m → IsFormedChange f → HasRun UPDATE_JOB.now (change_params f) old new → TablesMean new.now (with_change (job_of f) m) k × KeepsOthers our_tables jobs_tree old new
+  pub job_changed : IsChange (job_of f) m → IsFormedChange f → HasRun UPDATE_JOB.now (change_params f) old new → TablesMean new.now (with_set (job_of f) m) k × KeepsOthers our_tables jobs_tree old new
   job_changed change lawful h =
       let same = keeps_order change in
       let placed = put f its_lines in
@@ -261,7 +262,7 @@ module _ (f : JobFields) (old new : State) (m : Queue) (k : Ledger) (means : Tab
       (λ x has off. rw (is_other x off) refl)
       (runs_as UPDATE_JOB.now (change_params f) old new our_tables means.schema _ update_job.is update_job.plain h.0 h.1) in
       let now : AreRecords row_of IsLawfulJob (new.now.trees jobs_tree) (map placed m.jobs) = record { is = done.1; ordered = done.2; lawful = all_mapped IsLawfulJob placed m.jobs (λ x has. put_lawful f its_lines lawful x (same x has)) means.lawful.jobs } in
-      let after = with_change (job_of f) m in
+      let after = with_set (job_of f) m in
       let moved = jobs_changed old new m (open_grants m) (calls_of m) k (parts_of old.now m k means) done.0 (map placed m.jobs) now in (
         means_of new.now after k (jobs_mapped placed m (same_number f its_lines) means.held)
             (calls_as new.now after (open_grants after) (calls_of m) (calls_of after) k
@@ -283,7 +284,7 @@ module _ (phase : Phase) (t : ℕ) where
   past (Some s) = ap (λ b. nat_le 1 s && b) (and-true (nat_le s t))
 
   abbrev expires_here : Job → Bool
-  expires_here j = phase_number j.phase == phase_number phase && is_past j.killtime t
+  expires_here j = is_expired phase t (Some j)
 
   -- the jobs that pass are those that expire
   expiring : (j : Job) → passes jobs_tree expired_tests expired_project expired_params (row_of j) ≡ expires_here j
@@ -321,20 +322,68 @@ module _ (phase : Phase) (t : ℕ) where
   }) (λ _. was)
 
   module _ (old new : State) (m : Queue) (k : Ledger) (means : TablesMean old.now m k) where
-    -- where no row is shown, no job expires
-    pub none_expired : (found : Option Row) → FindsRow SELECT_EXPIRED.now expired_params old new found → is_some found ≡ false → with_expired_in phase t m ≡ m
-    none_expired None h e =
-        let is_asked = passes jobs_tree expired_tests killtime_project expired_params in
-        let shown = show jobs_tree expired_tests killtime_project expired_params in
-        let rows = answers jobs_tree expired_tests killtime_project expired_params old.now (old.now.trees jobs_tree) refl [] h.0
-        (reads_as SELECT_EXPIRED.now expired_params old new our_tables means.schema _ select_expired.command select_expired.plain select_expired.unlisted h.0 h.1) in
-        ap (λ jobs. record m { jobs = jobs }) (unmoved (expired_in phase t) m.jobs (λ x has.
-        rw (sym (expiring x) ∙ none_shown is_asked shown (old.now.trees jobs_tree) h.0 rows h.2 (row_of x)
-        (subst (λ table. Has table (row_of x)) (sym means.jobs) (mapped_has row_of m.jobs x has))) refl))
-    none_expired (Some row) h e = absurd cc
+    module _ (rows : List Row) (h : Shown SELECT_EXPIRED.now expired_params old new rows) where
+      abbrev pub asks : Row → Bool
+      asks = passes jobs_tree expired_tests number_project expired_params
+
+      abbrev pub tells : Row → Row
+      tells = show jobs_tree expired_tests number_project expired_params
+
+      -- the rows that are shown are those of jobs that expire
+      shows : IsPermutation (map tells (filter asks (old.now.trees jobs_tree))) rows
+      shows = answers jobs_tree expired_tests number_project expired_params old.now (old.now.trees jobs_tree) refl [] rows
+          (reads_as SELECT_EXPIRED.now expired_params old new our_tables means.schema _ select_expired.command select_expired.plain select_expired.unlisted rows h)
+
+      -- each is the number of such a job
+      of_job : (r : Row) → Has rows r → (j : Job) × Has m.jobs j × (expires_here j ≡ true) × (r ≡ number j.number ∷ [])
+      of_job r has =
+          let one = shown_one asks tells (old.now.trees jobs_tree) rows shows r has in
+          let it = has_mapped row_of m.jobs one.0 (subst (λ table. Has table one.0) means.jobs one.1) in
+          (it.0, it.1, sym (expiring it.0) ∙ subst (λ s. asks s ≡ true) it.2 one.2, one.3 ∙ ap tells it.2)
+
+      abbrev pub their_numbers : List ℕ
+      their_numbers = numbers_in rows
+
+      -- one of the numbers is that of a job that expires
+      among_expires : (n : ℕ) → is_among their_numbers n ≡ true → is_expired phase t (job_numbered n m) ≡ true
+      among_expires n on =
+          let found = some_has (λ other. n == other) their_numbers on in
+          let row = has_mapped number_first rows found.0 found.1 in
+          let job = of_job row.0 row.1 in
+          let same : n ≡ (job.0).number = eqb-true n found.0 found.2 ∙ row.2 ∙ ap number_first job.3 in
+          let there = only_numbered row_of (λ (j : Job). j.number) (λ j. refl) m.jobs job.0 (subst IsTable means.jobs means.ordered.jobs.rise) job.1 in
+          subst (λ (o : Option Job). is_expired phase t o ≡ true) (sym (subst (λ (i : ℕ). job_numbered i m ≡ Some job.0) (sym same) there)) job.2
+
+      -- and that of each job that expires is one of them
+      expires_among : (n : ℕ) (o : Option Job) → job_numbered n m ≡ o → is_expired phase t o ≡ true → is_among their_numbers n ≡ true
+      expires_among n None is on = cc
+      expires_among n (Some j) is on =
+          let has = (has_found (λ (k : Job). k.number == n) m.jobs j is).0 in
+          let table = subst (λ table. Has table (row_of j)) (sym means.jobs) (mapped_has row_of m.jobs j has) in
+          let shown_row = one_shown asks tells (old.now.trees jobs_tree) rows shows (row_of j) table (expiring j ∙ on) in
+          some_from (λ other. n == other) their_numbers j.number (mapped_has number_first rows (tells (row_of j)) shown_row)
+          (eq-eqb n j.number (sym (number_found (λ (k : Job). k.number) n m.jobs j is)))
+
+      -- so the numbers that are shown are those of the jobs that expire
+      pub expired_shown : (numbers : List ℕ) × (rows ≡ map (λ n. number n ∷ []) numbers) × ((n : ℕ) → is_among numbers n ≡ is_expired phase t (job_numbered n m))
+      expired_shown = (
+        their_numbers,
+        numbered_rows rows (λ r has. let it = of_job r has in ((it.0).number, it.3)),
+        λ n. both_ways_equal (is_among their_numbers n) (is_expired phase t (job_numbered n m)) (among_expires n) (expires_among n (job_numbered n m) refl),
+      )
+
+    -- where no job of a number expires, none does
+    pub none_expired : ((n : ℕ) → is_expired phase t (job_numbered n m) ≡ false) → with_expired_in phase t m ≡ m
+    none_expired none =
+        ap₂ (λ (jobs : List Job) (times : List Times). record m { jobs = jobs; times = times })
+        (unmoved (expired_in phase t) m.jobs (λ j has.
+        let there = only_numbered row_of (λ (k : Job). k.number) (λ k. refl) m.jobs j (subst IsTable means.jobs means.ordered.jobs.rise) has in
+        let off : expires_here j ≡ false = ap (is_expired phase t) (sym there) ∙ none j.number in
+        ap (λ b. if b then expired j else j) off))
+        (ends_none t (λ n. is_expired phase t (job_numbered n m)) m.times none)
 
     -- the text that expires jobs of a phase does so to each, and touches jobs alone
-    pub jobs_expired : HasRun EXPIRE_JOBS.now expired_params old new → TablesMean new.now (with_expired_in phase t m) k × KeepsOthers our_tables jobs_tree old new
+    pub jobs_expired : HasRun EXPIRE_JOBS.now expired_params old new → TablesMean new.now (with_failed_in phase t m) k × KeepsOthers our_tables jobs_tree old new
     jobs_expired h =
         let ran = runs_as EXPIRE_JOBS.now expired_params old new our_tables means.schema _ expire_jobs.is expire_jobs.plain h.0 h.1 in
         let done = updated schema.jobs.name 0 schema.jobs.columns schema.jobs.key schema.jobs.primary schema.jobs.uniques schema.jobs.orders schema.jobs.checks 0 refl old new means.schema refl means.ordered.jobs
@@ -344,12 +393,17 @@ module _ (phase : Phase) (t : ℕ) where
         (λ j has off. rw (sym (expiring j) ∙ off) refl)
         ran in
         let now : AreRecords row_of IsLawfulJob (new.now.trees jobs_tree) (map (expired_in phase t) m.jobs) = record { is = done.1; ordered = done.2; lawful = all_mapped IsLawfulJob (expired_in phase t) m.jobs (λ j has. expired_lawful j) means.lawful.jobs } in
-        let after = with_expired_in phase t m in
+        let after = with_failed_in phase t m in
         let moved = jobs_changed old new m (open_grants m) (calls_of m) k (parts_of old.now m k means) done.0 (map (expired_in phase t) m.jobs) now in (
           means_of new.now after k (jobs_mapped (expired_in phase t) m number_kept means.held)
               (calls_as new.now after (open_grants after) (calls_of m) (calls_of after) k (λ dial. calls_mapped (expired_in phase t) m number_kept dial (λ j has. cond_both (expires_here j) (expired j) j (λ i. i.dial ≡ j.dial) (λ _. refl) (λ _. refl))) moved),
           done.0,
         )
+
+  -- where those that expire have ended, they fail
+  pub expired_by : (m : Queue) (numbers : List ℕ) → ((n : ℕ) → is_among numbers n ≡ is_expired phase t (job_numbered n m)) → with_failed_in phase t (with_ends t (is_among numbers) m) ≡ with_expired_in phase t m
+  expired_by m numbers same =
+      ap (λ (xs : List Times). with_failed_in phase t (record m { times = xs })) (ends_as t (is_among numbers) (λ n. is_expired phase t (job_numbered n m)) m.times same)
 
 -- ---- the jobs that are held, and then those that wait, are all that expire
 
@@ -364,10 +418,43 @@ expired_once : (t : ℕ) (j : Job) → expired_in Waiting t (expired_in Held t j
 expired_once t j = elim (cases_Bool (phase_number j.phase == 0 && is_past j.killtime t))
     [ inl e ↦ rw (either j.phase (is_past j.killtime t), e) refl | inr e ↦ rw (either j.phase (is_past j.killtime t), e) refl ]
 
+-- a job that expires in one of them, ends
+ends_by : (t : ℕ) (j : Job) (p : Phase) (b : Bool) → j.phase ≡ p → is_past j.killtime t ≡ b
+    → (is_expired Held t (Some j) || is_expired Waiting t (Some (expired_in Held t j))) ≡ ends (Some j) (Some (aged_job t j))
+ends_by t j Held true is on = rw (is, on) refl
+ends_by t j Held false is on = rw (is, on) refl
+ends_by t j Waiting true is on = rw (is, on) refl
+ends_by t j Waiting false is on = rw (is, on) refl
+ends_by t j Granted b is on = rw is refl
+ends_by t j Done b is on = rw is refl
+ends_by t j Failed b is on = rw is refl
+
+ends_so : (t : ℕ) (o : Option Job) → (is_expired Held t o || is_expired Waiting t (option_map (expired_in Held t) o)) ≡ ends o (option_map (aged_job t) o)
+ends_so t None = refl
+ends_so t (Some j) = ends_by t j j.phase (is_past j.killtime t) refl refl
+
 -- expired while held and then while they wait, all jobs have expired that do
 pub expired_in_turn : (t : ℕ) (m : Queue) → with_expired_in Waiting t (with_expired_in Held t m) ≡ with_expired t m
-expired_in_turn t m = ap (λ jobs. record m { jobs = jobs }) (all m.jobs)
+expired_in_turn t m = ap₂ (λ (jobs : List Job) (times : List Times). record m { jobs = jobs; times = times }) (all m.jobs) times
   where
     all : (jobs : List Job) → map (expired_in Waiting t) (map (expired_in Held t) jobs) ≡ map (aged_job t) jobs
     all [] = refl
     all (j ∷ jobs) = ap₂ (λ i is. i ∷ is) (expired_once t j) (all jobs)
+
+    after : Queue
+    after = record m { jobs = map (aged_job t) m.jobs }
+
+    held : Queue
+    held = with_expired_in Held t m
+
+    first : (n : ℕ) → job_numbered n held ≡ option_map (expired_in Held t) (job_numbered n m)
+    first n = find_map (λ (j : Job). j.number == n) (expired_in Held t) (λ j. ap (λ (a : ℕ). a == n) (number_kept Held t j)) m.jobs
+
+    last : (n : ℕ) → job_numbered n after ≡ option_map (aged_job t) (job_numbered n m)
+    last n = find_map (λ (j : Job). j.number == n) (aged_job t) (λ j. ap (λ (a : ℕ). a == n) (aged_number t j)) m.jobs
+
+    times : map (ended_where t (λ n. is_expired Waiting t (job_numbered n held))) (map (ended_where t (λ n. is_expired Held t (job_numbered n m))) m.times) ≡ (stamp t m after).times
+    times =
+        ends_twice t (λ n. is_expired Held t (job_numbered n m)) (λ n. is_expired Waiting t (job_numbered n held)) m.times
+        ∙ sym (times_after t m after (λ n. is_expired Held t (job_numbered n m) || is_expired Waiting t (job_numbered n held)) (length_map (aged_job t) m.jobs)
+        (λ n. ap (ends (job_numbered n m)) (last n) ∙ sym (ends_so t (job_numbered n m)) ∙ ap (λ (o : Option Job). is_expired Held t (job_numbered n m) || is_expired Waiting t o) (sym (first n))))

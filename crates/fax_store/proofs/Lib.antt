@@ -10,6 +10,9 @@ pub mod WorkLemmas
 pub mod FrameLemmas
 pub mod FoundLemmas
 pub mod KeptLemmas
+pub mod NumberedLemmas
+pub mod TimesLemmas
+pub mod EndLemmas
 pub mod JobLemmas
 pub mod ModemLemmas
 pub mod GrantLemmas
@@ -20,6 +23,9 @@ pub mod HundredthLemmas
 pub mod CallLemmas
 pub mod Rows
 pub mod HeldLemmas
+pub mod TurnLemmas
+pub mod StrayLemmas
+pub mod TimedLemmas
 pub mod AdoptLemmas
 pub mod FloorLemmas
 mod MeaningLemmas

@@ -3,7 +3,6 @@ use Rattle.std.proofs.Common.{◌≡◌, ℕ, zero, suc, ◌≤◌, ◌==◌, po
 use Rattle.std.proofs.Math.Path.{fun_ext}
 use Rattle.std.proofs.lemmas.List.Elements.{All-head, All-tail}
 use Rattle.sqlite.specs.Effect.{Database}
-use Rattle.sqlite_catalog.specs.Change.{KeepsRows}
 use Rattle.sqlite.specs.Order.{Row, column}
 use Rattle.sqlite.specs.declared.types.Value.{Value}
 use Rattle.sqlite.specs.declared.types.Value.TheVariants.{Blob, Int, Text}
@@ -23,14 +22,14 @@ use Rattle.fax_core.proofs.FitsLemmas.{job_again}
 use Rattle.fax_core.specs.Job.{Job, fields_of, job_of}
 use Rattle.fax_core.specs.Ledger.{Ledger, IsLawfulEntry}
 use Rattle.fax_core.specs.Queue.{Queue, Entry}
+use Rattle.fax_core.specs.declared.times.Times.{Times}
 use Rattle.fax_core.specs.declared.grants.Grant.{Grant}
-use Rattle.fax_schema.specs.Schema.{down_tree, floors_tree, grants_tree, jobs_tree, meta_tree, replies_tree, second_list}
-use Rattle.fax_schema.proofs.RowsLemmas.{at_tree}
+use Rattle.fax_schema.specs.Schema.{down_tree, floors_tree, grants_tree, jobs_tree, meta_tree, replies_tree, times_tree}
 use Rattle.fax_store.specs.Meaning.{RowsHaveOneMeaning}
 use Rattle.fax_tables.proofs.RowLemmas.{killtime_of, same_fields}
 use Rattle.fax_tables.specs.Job.{IsLawfulJob}
-use Rattle.fax_tables.specs.Row.{call_columns, call_number, down_columns, entry_columns, grant_row, job_row, meta_row, phase_number, wish_number}
-use Rattle.fax_tables.specs.Tables.{AreCounted, IsLawfulGrant, TablesMean, second_in}
+use Rattle.fax_tables.specs.Row.{call_columns, call_number, down_columns, entry_columns, grant_row, job_row, meta_row, phase_number, times_row, wish_number}
+use Rattle.fax_tables.specs.Tables.{AreCounted, AreLawfulTimes, IsLawfulGrant, TablesMean}
 
 -- ---- values
 
@@ -136,6 +135,14 @@ one_entry a b is = λ i. record {
   body = blob_in (column (is i) 4);
 }
 
+-- and one job's times
+one_times : (a b : Times) → times_row a ≡ times_row b → a ≡ b
+one_times a b is = λ i. record {
+  job = number_in (column (is i) 0);
+  submitted = number_in (column (is i) 2);
+  ended = number_in (column (is i) 3);
+}
+
 -- rows have one list of records
 one_of_each : {X : Type 0} (show : X → Row) (Lawful : X → Type 0) → ((a b : X) → Lawful a → Lawful b → show a ≡ show b → a ≡ b)
     → (xs ys : List X) → All Lawful xs → All Lawful ys → map show xs ≡ map show ys → xs ≡ ys
@@ -170,8 +177,8 @@ counted_alike count other columns are others text = by (count text) refl (other 
 -- two databases with the same rows in all tables but `holds` and `calls` mean the same
 same_meaning : (a b : Database) (m n : Queue) (k l : Ledger) → TablesMean a m k → TablesMean b n l
     → a.trees jobs_tree ≡ b.trees jobs_tree → a.trees grants_tree ≡ b.trees grants_tree → a.trees down_tree ≡ b.trees down_tree → a.trees replies_tree ≡ b.trees replies_tree
-    → a.trees meta_tree ≡ b.trees meta_tree → a.trees floors_tree ≡ b.trees floors_tree → (m ≡ n) × (k ≡ l)
-same_meaning a b m n k l here there jobs grants down replies meta floors =
+    → a.trees meta_tree ≡ b.trees meta_tree → a.trees floors_tree ≡ b.trees floors_tree → a.trees times_tree ≡ b.trees times_tree → (m ≡ n) × (k ≡ l)
+same_meaning a b m n k l here there jobs grants down replies meta floors times =
     let row : meta_row m ∷ [] ≡ meta_row n ∷ [] = sym here.meta ∙ meta ∙ there.meta in
     let number = λ (at : ℕ). ap (λ rows. number_in (column (first rows) at)) row in
     let all_jobs : m.jobs ≡ n.jobs =
@@ -180,9 +187,10 @@ same_meaning a b m n k l here there jobs grants down replies meta floors =
     let all_down : m.down ≡ n.down =
     one_of_each down_columns IsName (λ x y _ _ is. ap (λ row. text_in (column row 0)) is) m.down n.down here.lawful.down there.lawful.down (sym here.down ∙ ap (map (drop 1)) down ∙ there.down) in
     let all_replies : k.replies ≡ l.replies = one_of_each entry_columns IsLawfulEntry (λ x y _ _. one_entry x y) k.replies l.replies here.lawful.replies there.lawful.replies (sym here.replies ∙ ap (map (drop 1)) replies ∙ there.replies) in
+    let all_times : m.times ≡ n.times = one_of_each times_row AreLawfulTimes (λ x y _ _. one_times x y) m.times n.times here.lawful.times there.lawful.times (sym here.times ∙ times ∙ there.times) in
     let counts = subst (AreCounted k.floor) (ap (map (drop 1)) floors) here.floors in
     let all_floors : k.floor ≡ l.floor = fun_ext (counted_alike k.floor l.floor _ counts there.floors) in (
-      λ i. record { jobs = all_jobs i; grants = all_grants i; down = all_down i; clock = number 2 i; next_job = number 3 i; next_grant = number 4 i },
+      λ i. record { jobs = all_jobs i; grants = all_grants i; down = all_down i; times = all_times i; clock = number 2 i; next_job = number 3 i; next_grant = number 4 i },
       λ i. record { replies = all_replies i; floor = all_floors i },
     )
   where
@@ -195,8 +203,5 @@ rows_have_one_meaning db m n k l here there =
     let a = here.same in
     let b = there.same in
     same_meaning here.full there.full m n k l here.means there.means
-    (a.rows.0 ∙ sym b.rows.0) (a.rows.1.0 ∙ sym b.rows.1.0) (a.rows.1.1.1.0 ∙ sym b.rows.1.1.1.0) (a.rows.1.1.1.1.0 ∙ sym b.rows.1.1.1.1.0)
-    (a.meta ∙ sym b.meta) (floors here.full a.second ∙ sym (floors there.full b.second))
-  where
-    floors : (full : Database) → KeepsRows second_list (second_in db) full.trees → full.trees floors_tree ≡ second_in db floors_tree
-    floors full kept = at_tree (λ tree. full.trees tree ≡ second_in db tree) second_list floors_tree refl kept
+    (a.rows.0 ∙ sym b.rows.0) (a.grants ∙ sym b.grants) (a.rows.1.1.0 ∙ sym b.rows.1.1.0) (a.rows.1.1.1.0 ∙ sym b.rows.1.1.1.0)
+    (a.meta ∙ sym b.meta) (a.floors ∙ sym b.floors) (a.times ∙ sym b.times)

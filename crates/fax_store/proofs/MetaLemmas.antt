@@ -39,7 +39,7 @@ meta_passes m params = rw number_same refl
 
 -- the row of meta is stored as it is
 stored : (m : Queue) → cast_row schema.meta (meta_row m) ≡ meta_row m
-stored m = same_row (cast_int (pos 1)) (same_row cast_null (same_row (cast_int _) (same_row (cast_int _) (same_row (cast_int _) (same_row (cast_int (pos 2)) refl)))))
+stored m = same_row (cast_int (pos 1)) (same_row cast_null (same_row (cast_int _) (same_row (cast_int _) (same_row (cast_int _) (same_row (cast_int (pos 3)) refl)))))
 
 -- what a change of the clock is told
 abbrev pub clock_params : ℕ → Row

@@ -11,7 +11,7 @@ abbrev after_grant : Queue
 after_grant = with_one_more_grant grant (with_clock 5 empty_queue)
 
 -- a grant that is made is open, and the next number is one more
-granted : after_grant ≡ record { jobs = []; grants = grant ∷ []; down = []; clock = 5; next_job = 1; next_grant = 2 }
+granted : after_grant ≡ record { jobs = []; grants = grant ∷ []; times = []; down = []; clock = 5; next_job = 1; next_grant = 2 }
 granted = refl
 
 -- a grant that is closed is open no more

@@ -7,6 +7,7 @@ use Rattle.fax_schema.proofs.StatementTexts.{expire_jobs, insert_job, insert_rep
 use Rattle.fax_schema.proofs.StatementTexts.{select_behind_number, select_behind_priority, select_behind_time, select_first}
 use Rattle.fax_schema.proofs.StatementTexts.{select_brief, select_briefs, select_briefs_from, select_dial, select_expired, select_held, select_holders, select_job, select_lost}
 use Rattle.fax_schema.proofs.StatementTexts.{select_meta, select_reply, select_version, select_waiting}
+use Rattle.fax_schema.proofs.TimesTexts.{delete_grant, end_times, insert_times, select_phases, select_strays, select_times}
 use Rattle.fax_store.proofs.StatementLemmas.{edit_text}
 
 pub ruleset pages = (select_behind_number, select_behind_priority, select_behind_time, select_first)
@@ -21,4 +22,6 @@ pub ruleset others = (delete_down, insert_down, select_down, select_meta, update
 
 pub ruleset clients = (delete_floor, delete_replies, insert_floor, insert_reply, select_floor, select_hundredth, select_reply)
 
-pub ruleset texts = (edit_text, pages, jobs, grants, adopted, others, clients)
+pub ruleset timed = (delete_grant, end_times, insert_times, select_phases, select_strays, select_times)
+
+pub ruleset texts = (edit_text, timed, pages, jobs, grants, adopted, others, clients)

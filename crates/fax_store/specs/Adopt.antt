@@ -1,14 +1,18 @@
 -- What becomes of a database that a store adopts.
-use Rattle.std.specs.Prelude.{◌≡◌, ◌≢◌, ◌⊎◌, ◌<◌, ◌^◌, ℕ, pos, Bool, true, false, List, [], ◌∷◌, filter, length, Some, Err, Result, MatchResult, IfErr, OnErr, OnOk, is_err, IsTrue}
+use Rattle.std.specs.Prelude.{◌≡◌, ◌≢◌, ◌⊎◌, ◌<◌, ◌^◌, ℕ, pos, Bool, true, false, not, List, [], ◌∷◌, filter, map, length, Some, Err, Result, MatchResult, IfErr, OnErr, OnOk, is_err, IsTrue}
+use Rattle.std.specs.List.{AllByRecursion, list_any}
 use Rattle.sqlite.specs.Collation.TheVariants.{Binary}
 use Rattle.sqlite.specs.Effect.{Database, IsDatabase}
 use Rattle.sqlite.specs.Order.{Row, column}
 use Rattle.sqlite.specs.State.{State, HasCleanDisk, IsUnchanged, KeepsCommit}
-use Rattle.sqlite.specs.Tree.{rowid}
+use Rattle.sqlite.specs.Tree.{rowid, IsTable}
+use Rattle.sqlite.specs.View.{is_int}
 use Rattle.sqlite.specs.declared.types.Value.{Value}
 use Rattle.sqlite.specs.declared.types.Value.TheVariants.{Int, Text}
 use Rattle.sqlite_catalog.specs.Change.{KeepsRows}
 use Rattle.sqlite_rules.specs.Lists.{Has}
+use Rattle.sqlite_schema.specs.Rules.{equal, is_of}
+use Rattle.sqlite_schema.specs.declared.schema.Kind.TheVariants.{Integer}
 use Rattle.sqlite_schema.specs.declared.schema.Schema.{Schema}
 use Rattle.sqlite_sql.specs.Ops.{binary, is_true}
 use Rattle.sqlite_sql.specs.declared.ops.BinaryOp.TheVariants.{Compare}
@@ -19,12 +23,12 @@ use Rattle.fax_core.specs.Queue.{Queue, empty_queue, job_numbered}
 use Rattle.fax_core.specs.State.{is_of_number}
 use Rattle.fax_value.specs.Dial.{IsCanonical}
 use Rattle.fax_tables.specs.Job.{IsText}
-use Rattle.fax_tables.specs.Row.{number}
+use Rattle.fax_tables.specs.Row.{number, raised}
 use Rattle.fax_schema.specs.ByRowid.{IsByRowid}
-use Rattle.fax_schema.specs.Schema.{AreOurs, alike_list, second_list, no_tables, our_tables, core_tables, calls_tree, has_floors, holds_tree, jobs_tree, meta_tree}
+use Rattle.fax_schema.specs.Schema.{AreOurs, alike_list, no_tables, our_tables, core_tables, calls_tree, floors_tree, grants_tree, holds_tree, jobs_tree, meta_tree, times_tree}
 use Rattle.fax_schema.specs.Way.{IsWay}
 use Rattle.fax_schema.specs.declared.way.Way.{Way}
-use Rattle.fax_tables.specs.Tables.{GoesOn, HasVersion, IsAtRest, RowsMean, TablesMean, meta_as, meta_in, second_in, versions}
+use Rattle.fax_tables.specs.Tables.{GoesOn, HasVersion, IsAtRest, RowsMean, TablesMean, added_in, grants_as, grants_in, meta_as, meta_in, time_made, times_as, times_in, version_of, versions}
 use Rattle.sqlite_trees.specs.Tree.{Trees}
 use Rattle.fax_store.specs.Grant.{HasCalls, SetsCalls}
 use Rattle.fax_store.specs.Work.{Withholds}
@@ -41,23 +45,25 @@ IsOf value job = is_true (binary (Compare Eq Binary) (rowid job) value) ≡ true
 abbrev pub HoldJobs : Database → Type 0
 HoldJobs db = (hold : Row) → Has (db.trees holds_tree) hold → (job : Row) × Has (db.trees jobs_tree) job × IsOf (column hold 2) job
 
--- the database has our tables, of either version, meta has one row, of that version, and each hold its job
+-- the database has our tables, meta has one row, of their version, and each hold its job
 pub record IsOurs (db : Database) : Type 0 where
   pub schema_is : AreOurs db.schema
   pub version : HasVersion db
   pub held : HoldJobs db
 
--- its meta stays as it is, or its rows there have rowids that are integers and rise, as those of each table do
-abbrev pub IsRaisable : Database → Type 0
-IsRaisable db = (has_floors db.schema ≡ true) ⊎ IsByRowid (db.trees meta_tree)
+-- the version is the third, or the rowids of these rows are integers and rise, as those of each table do
+abbrev pub IsRaisable : ℕ → List Row → Type 0
+IsRaisable version rows = (version ≡ 3) ⊎ IsByRowid rows
 
--- all eight tables, with the rows that the other has, as the second version has them
+-- all nine tables, with the rows that the other has, as the third version has them
 pub record IsTaken (db after : Database) : Type 0 where
   pub schema_is : after.schema ≡ our_tables
   pub sound : IsDatabase after
   pub rows : KeepsRows alike_list db.trees after.trees
-  pub meta : IsRaisable db → after.trees meta_tree ≡ meta_in db
-  pub second : KeepsRows second_list (second_in db) after.trees
+  pub grants : IsRaisable (version_of db.schema) (db.trees grants_tree) → after.trees grants_tree ≡ grants_in db
+  pub meta : IsRaisable (version_of db.schema) (db.trees meta_tree) → after.trees meta_tree ≡ meta_in db
+  pub floors : after.trees floors_tree ≡ added_in db floors_tree
+  pub times : IsRaisable (version_of db.schema) (db.trees jobs_tree) → after.trees times_tree ≡ times_in db
 
 -- no work is under way, and the database has got all of them
 pub record HasTaken (s : State) (db : Database) : Type 0 where
@@ -89,7 +95,7 @@ pub record CanBeCalled (db : Database) (n : ℕ) : Type 0 where
 abbrev pub HoldsCanBeCalled : Database → Type 0
 HoldsCanBeCalled db = (hold : Row) → Has (db.trees holds_tree) hold → (n : ℕ) × (column hold 2 ≡ number n) × CanBeCalled db n
 
--- Our tables, of either version. What is held can be called, whatever else the rows say.
+-- Our tables, of any version. What is held can be called, whatever else the rows say.
 pub record IsTakeable (db : Database) : Type 0 where
   pub schema_is : AreOurs db.schema
   pub version : HasVersion db
@@ -146,47 +152,108 @@ pub record HasNone (s : State) : Type 0 where
   pub sound : IsDatabase s.now
   pub none : s.now.trees calls_tree ≡ []
 
--- all eight tables, with the rows that the other has in seven of them
+-- all nine tables, with the rows that the other has in eight of them
 pub record IsWhole (db after : Database) : Type 0 where
   pub schema_is : after.schema ≡ our_tables
   pub sound : IsDatabase after
   pub rows : KeepsRows core_tables.tables db.trees after.trees
 
--- its meta stays in this version, or can be raised
-abbrev pub IsRaisableFrom : ℕ → Database → Type 0
-IsRaisableFrom version db = (version ≢ 1) ⊎ IsByRowid (db.trees meta_tree)
+-- our tables, where at most the rows of this one have changed
+pub record ChangesOnly (tree : ℕ) (db after : Database) : Type 0 where
+  pub schema_is : after.schema ≡ our_tables
+  pub sound : IsDatabase after
+  pub others : AllByRecursion (λ t. t.tree ≢ tree → after.trees t.tree ≡ db.trees t.tree) our_tables.tables
 
--- it was of this version, and is of the second; no call is counted yet
-pub record IsSettled (version : ℕ) (db after : Database) : Type 0 where
-  pub was : versions db ≡ number version ∷ []
+-- ---- the rows of an earlier version become those of the third
+
+-- each of these rows begins with an integer
+abbrev pub AreNumbered : List Row → Type 0
+AreNumbered rows = AllByRecursion (λ row. IsTrue (is_int (column row 0))) rows
+
+-- one of these rows begins with the number of a grant
+abbrev pub is_listed : List Row → Row → Bool
+is_listed rows grant = list_any (λ row. equal Binary (column grant 0) (column row 0)) rows
+
+-- the grants whose numbers these rows have are gone
+pub record AreDropped (rows : List Row) (db after : Database) : Type 0 where
+  pub only : ChangesOnly grants_tree db after
+  pub left : AreNumbered rows → IsByRowid (db.trees grants_tree) → after.trees grants_tree ≡ filter (λ grant. not (is_listed rows grant)) (db.trees grants_tree)
+
+-- the grants whose job isn't there are gone
+pub record HasNoStrays (db after : Database) : Type 0 where
+  pub only : ChangesOnly grants_tree db after
+  pub left : IsByRowid (db.trees grants_tree) → after.trees grants_tree ≡ grants_as 1 db.trees
+
+-- the times of the job in a row of its number and phase
+abbrev pub timed : Value → Row → Row
+timed clock row = time_made clock (column row 0) (column row 1)
+
+-- these rows begin with integers, and the clock is stored as it is
+pub record CanBeTimed (clock : Value) (rows : List Row) : Type 0 where
+  pub numbers : AreNumbered rows
+  pub stored : is_of Integer clock ≡ true
+
+-- the rows of times are those before and those of these jobs
+pub record HaveTimes (clock : Value) (rows before after : List Row) : Type 0 where
+  pub rise : IsTable before → IsTable after
+  pub each : (row : Row) → Has after row → Has before row ⊎ Has (map (timed clock) rows) row
+  pub all : (row : Row) → Has before row ⊎ Has (map (timed clock) rows) row → Has after row
+
+-- the jobs of these rows have their times
+pub record AreTimed (clock : Value) (rows : List Row) (db after : Database) : Type 0 where
+  pub only : ChangesOnly times_tree db after
+  pub made : CanBeTimed clock rows → HaveTimes clock rows (db.trees times_tree) (after.trees times_tree)
+
+-- all jobs have their times
+pub record HasTimes (db after : Database) : Type 0 where
+  pub only : ChangesOnly times_tree db after
+  pub made : (version : Value) → versions db ≡ version ∷ [] → db.trees times_tree ≡ [] → IsByRowid (db.trees jobs_tree) → after.trees times_tree ≡ times_as 1 db.trees
+
+-- meta has the third version
+pub record HasThird (db after : Database) : Type 0 where
+  pub only : ChangesOnly meta_tree db after
+  pub raised : IsByRowid (db.trees meta_tree) → after.trees meta_tree ≡ map raised (db.trees meta_tree)
+
+-- in an earlier version no job has times yet
+abbrev pub IsUntimed : ℕ → Database → Type 0
+IsUntimed version db = (version ≡ 3) ⊎ (db.trees times_tree ≡ [])
+
+-- all tables, where the rows of this version have become those of the third
+pub record IsThird (version : ℕ) (db after : Database) : Type 0 where
   pub schema_is : after.schema ≡ our_tables
   pub sound : IsDatabase after
   pub rows : KeepsRows alike_list db.trees after.trees
-  pub meta : IsRaisableFrom version db → after.trees meta_tree ≡ meta_as version (db.trees meta_tree)
-  pub second : KeepsRows second_list db.trees after.trees
-  pub none : after.trees calls_tree ≡ []
+  pub grants : IsRaisable version (db.trees grants_tree) → after.trees grants_tree ≡ grants_as version db.trees
+  pub meta : IsRaisable version (db.trees meta_tree) → after.trees meta_tree ≡ meta_as version (db.trees meta_tree)
+  pub floors : after.trees floors_tree ≡ db.trees floors_tree
+  pub times : versions db ≡ number version ∷ [] → IsUntimed version db → IsRaisable version (db.trees jobs_tree) → after.trees times_tree ≡ times_as version db.trees
 
--- it was of this version, with a job for each hold, and has all tables
+-- the same, with the calls as they were
+abbrev pub IsSettled : ℕ → Database → Database → Type 0
+IsSettled version db after = IsThird version db after × (after.trees calls_tree ≡ db.trees calls_tree)
+
+-- The database was of this version, with a job for each hold, and its rows have become those of the third.
 pub record IsFilled (version : ℕ) (db after : Database) : Type 0 where
   pub version_is : versions db ≡ number version ∷ []
   pub held : HoldJobs db
-  pub schema_is : after.schema ≡ our_tables
-  pub sound : IsDatabase after
-  pub rows : KeepsRows alike_list db.trees after.trees
-  pub meta : IsRaisableFrom version db → after.trees meta_tree ≡ meta_as version (db.trees meta_tree)
-  pub second : KeepsRows second_list db.trees after.trees
+  pub third : IsThird version db after
 
 -- the rows of all tables but `calls` are those of a database that means this
 abbrev pub CoreMeans : Database → Queue → Ledger → Type 0
 CoreMeans db m k = (full : Database) × TablesMean full m k × KeepsRows core_tables.tables full.trees db.trees
 
--- and so are they once those of meta, which are of this version, are as the second has them
+-- and so are they once they are as the third version has those of this
 pub record MeansAs (version : ℕ) (db : Database) (m : Queue) (k : Ledger) : Type 0 where
+  pub version_is : versions db ≡ number version ∷ []
+  pub untimed : IsUntimed version db
+  pub ordered : IsByRowid (db.trees grants_tree)
   pub full : Database
   pub means : TablesMean full m k
   pub rows : KeepsRows alike_list db.trees full.trees
+  pub grants : full.trees grants_tree ≡ grants_as version db.trees
   pub meta : full.trees meta_tree ≡ meta_as version (db.trees meta_tree)
-  pub second : KeepsRows second_list db.trees full.trees
+  pub floors : full.trees floors_tree ≡ db.trees floors_tree
+  pub times : full.trees times_tree ≡ times_as version db.trees
 
 -- ---- the calls, counted anew
 
@@ -221,7 +288,7 @@ AreCallable db rows = (row : Row) → Has rows row → (n : ℕ) × (row ≡ num
 
 -- ---- a stop
 
--- these are the rows that the database had, as the second version has them, beside those of `calls`
+-- these are the rows that the database had, as the third version has them, beside those of `calls`
 abbrev pub AreTaken : Database → Trees → Type 0
 AreTaken db found = (after : Database) × (after.trees ≡ found) × IsOurs db × IsTaken db after
 

@@ -1,5 +1,5 @@
 -- What is made of the jobs of a queue, and which of them wait.
-use Rattle.std.specs.Prelude.{◌≡◌, ℕ, Bool, not, List, [], ◌∷◌, ◌++◌, ◌+◌, ◌==◌, ◌&&◌, map, filter, nat_le, Option, Some, None, if◌then◌else◌}
+use Rattle.std.specs.Prelude.{◌≡◌, ℕ, Bool, not, List, [], ◌∷◌, ◌++◌, ◌+◌, map, filter, nat_le, Option, Some, None, if◌then◌else◌}
 use Rattle.std.specs.Ordering.{is_lt}
 use Rattle.std.specs.List.{range_with_len}
 use Rattle.std.specs.List.Sorted.{IsPermutation, IsSortedBy}
@@ -7,11 +7,12 @@ use Rattle.sqlite.specs.Effect.{Database}
 use Rattle.sqlite.specs.Order.{Row, column}
 use Rattle.sqlite_value.specs.Order.{value_cmp}
 use Rattle.fax_core.specs.Job.{Job, fields_of}
-use Rattle.fax_core.specs.Ageing.{aged_job, is_past}
+use Rattle.fax_core.specs.Ageing.{aged_job}
 use Rattle.fax_core.specs.Best.{better}
 use Rattle.fax_core.specs.State.{is_due}
 use Rattle.fax_core.specs.Machine.{with_job}
 use Rattle.fax_core.specs.Queue.{Queue, job_numbered}
+use Rattle.fax_core.specs.Stamp.{stamp}
 use Rattle.fax_job.specs.Pair.{Pair}
 use Rattle.fax_value.specs.Status.{kill_time_expired}
 use Rattle.fax_job.specs.declared.job.JobFields.{JobFields}
@@ -19,21 +20,22 @@ use Rattle.fax_job.specs.declared.job.Phase.{Phase}
 use Rattle.fax_job.specs.declared.job.Phase.TheVariants.{Failed}
 use Rattle.fax_schema.specs.Schema.{jobs_tree}
 use Rattle.fax_store.specs.Store.{HasRow}
+use Rattle.fax_store.specs.Times.{IsUntimed, is_expired, is_over_as, with_came, with_ends}
 use Rattle.fax_tables.specs.Job.{brief_shown, job_shown}
 use Rattle.fax_tables.specs.Place.{placed}
-use Rattle.fax_tables.specs.Row.{number, phase_number}
+use Rattle.fax_tables.specs.Row.{number}
 
 -- the queue with one more job
 abbrev pub with_placed : Job → Queue → Queue
 with_placed j m = record m { jobs = placed (λ k. k.number) j m.jobs }
 
--- the queue with one more job and the next number one greater
-abbrev pub with_one_more_job : Job → Queue → Queue
-with_one_more_job j m = record m { jobs = placed (λ k. k.number) j m.jobs; next_job = m.next_job + 1 }
+-- the queue with one more job, which came in at t, and the next number one greater
+abbrev pub with_one_more_job : ℕ → Job → Queue → Queue
+with_one_more_job t j m = record (with_came t j (with_placed j m)) { next_job = m.next_job + 1 }
 
--- no job has its number
+-- no job has its number, and no times
 abbrev pub IsNewJob : Job → Queue → Type 0
-IsNewJob j m = job_numbered j.number m ≡ None
+IsNewJob j m = (job_numbered j.number m ≡ None) × IsUntimed j m
 
 -- what no change of a job may set
 pub record IsSameOrder (j k : Job) : Type 0 where
@@ -49,9 +51,13 @@ lines_of (Some j) = j.extra
 abbrev pub with_its_lines : Queue → Job → Job
 with_its_lines m j = record j { extra = lines_of (job_numbered j.number m) }
 
--- the queue with the job changed, whose extra lines stay as they are there
-abbrev pub with_change : Job → Queue → Queue
-with_change j m = with_job (with_its_lines m j) m
+-- the queue with the job set, whose extra lines stay as they are there
+abbrev pub with_set : Job → Queue → Queue
+with_set j m = with_job (with_its_lines m j) m
+
+-- the same, and where the job is over it ends at t
+abbrev pub with_change : ℕ → Job → Queue → Queue
+with_change t j m = with_ends t (is_over_as j) (with_set j m)
 
 -- the job of that number, where there is one, is of the same order
 abbrev pub IsChange : Job → Queue → Type 0
@@ -59,15 +65,19 @@ IsChange j m = (k : Job) → job_numbered j.number m ≡ Some k → IsSameOrder 
 
 -- the queue with the jobs as time leaves them
 abbrev pub with_expired : ℕ → Queue → Queue
-with_expired t m = record m { jobs = map (aged_job t) m.jobs }
+with_expired t m = stamp t m (record m { jobs = map (aged_job t) m.jobs })
 
 -- the job, failed where it is in this phase and its kill time is past
 abbrev pub expired_in : Phase → ℕ → Job → Job
-expired_in phase t j = if phase_number j.phase == phase_number phase && is_past j.killtime t then record j { phase = Failed; status = kill_time_expired } else j
+expired_in phase t j = if is_expired phase t (Some j) then record j { phase = Failed; status = kill_time_expired } else j
+
+-- the queue with these jobs failed, and their ends as they are
+abbrev pub with_failed_in : Phase → ℕ → Queue → Queue
+with_failed_in phase t m = record m { jobs = map (expired_in phase t) m.jobs }
 
 -- the queue with the jobs of this phase as time leaves them
 abbrev pub with_expired_in : Phase → ℕ → Queue → Queue
-with_expired_in phase t m = record m { jobs = map (expired_in phase t) m.jobs }
+with_expired_in phase t m = with_failed_in phase t (with_ends t (λ n. is_expired phase t (job_numbered n m)) m)
 
 -- the jobs that are due at t, in the order of the choice: none is better than the one before it
 pub record AreWaiting (t : ℕ) (m : Queue) (jobs : List Job) : Type 0 where

@@ -1,6 +1,7 @@
 pub mod Store
 pub mod Work
 pub mod Calls
+pub mod Times
 pub mod Job
 pub mod Candidates
 pub mod Grant

@@ -7,31 +7,38 @@ ghost use Rattle.fax_core.specs.Job.{Job as OneJob};
 ghost use Rattle.fax_core.specs.Ledger.{Ledger};
 ghost use Rattle.fax_core.specs.Queue.{Queue, job_numbered};
 ghost use Rattle.fax_store.specs.Calls.{Finds, shown};
-ghost use Rattle.fax_store.specs.Adopt.{Adopts, AreAdopted, AreCallable, AreOfJobs, AreOnTheWay, AreSmall, AreTaken, CanBeCalled, CoreMeans, Counts, Founds, HasBecome, HasNone, HoldJobs, HoldsCanBeCalled, IsAdoptable, IsAdopted, IsFilled, IsGivenBack, IsIn, IsSettled, IsTakeable, IsWhole, MeansAs, Takes, Tests, Turns, TurnsOrUnavailable, held_to};
+ghost use Rattle.fax_store.specs.Adopt.{Adopts, AreAdopted, AreCallable, AreDropped, AreOfJobs, AreOnTheWay, AreSmall, AreTaken, AreTimed, CanBeCalled, CoreMeans, Counts, Founds, HasBecome, HasNone, HasNoStrays, HasTimes, HoldJobs, HoldsCanBeCalled, IsAdoptable, IsAdopted, IsFilled, IsGivenBack, IsIn, IsSettled, IsTakeable, IsWhole, MeansAs, Takes, Tests, Turns, TurnsOrUnavailable, held_to};
 ghost use Rattle.fax_store.specs.Grant.{HasCalls, SetsCalls, with_count};
 ghost use Rattle.fax_store.specs.Store.{HasTables};
 ghost use Rattle.fax_tables.specs.Row.{number};
+ghost use Rattle.sqlite_value.specs.Value.{owned};
 ghost use Rattle.fax_schema.specs.Schema.{no_tables};
 ghost use Rattle.fax_tables.specs.Tables.{HasNewCalls, TablesMean, version_of, versions};
 
 use crate::store::{BEGIN, COMMIT, Store};
 use fax_job::Dial;
 use fax_schema::statements::{
-    SELECT_DIAL, SELECT_HELD, SELECT_LOST, SELECT_VERSION, UPDATE_VERSION,
+    DELETE_GRANT, INSERT_TIMES, SELECT_DIAL, SELECT_HELD, SELECT_LOST, SELECT_META, SELECT_PHASES,
+    SELECT_STRAYS, SELECT_VERSION, UPDATE_VERSION,
 };
-use fax_schema::{Way, has_floors, has_no_tables, way_of};
-use fax_tables::{StoreFault, create_tables, dial_in, held_job_in, is_version, renew_tables};
+use fax_schema::{Way, has_floors, has_no_tables, has_times, way_of};
+use fax_tables::{
+    StoreFault, create_tables, dial_in, held_job_in, is_over_phase, is_version, renew_tables,
+};
+use sqlite::types::ValueRef;
 use sqlite::{Alter, Connection, Row, params};
 use sqlite_schema::schema::Schema;
 use std::alloc::Global;
 
 impl<S: Alter> Store<S> {
-    /// The store over a database. One with no tables gets the eight of an empty store, with their
-    /// indexes. One with exactly the tables of a queue, of version 1 or 2, keeps the rows of all but
-    /// `calls`, which is counted anew by what is held, whether it was there or not. Where the version
-    /// is 1, it becomes 2, and `floors` is made, with no rows. The indexes by which jobs are found are
-    /// made where there are none, where VACUUM moved them, where a store made others before, or where
-    /// the version was 1. All this is done in one transaction.
+    /// The store over a database. One with no tables gets the nine of an empty store, with their
+    /// indexes. One with exactly the tables of a queue, of version 1, 2 or 3, keeps the rows of all
+    /// but `calls`, which is counted again by what is held, whether it was there or not. Versions 1
+    /// and 2 become 3: `floors` is made where there is none, with no rows. `times` is made, with a
+    /// row for each job: when it came in isn't known, and one that is over ended at the clock of
+    /// `meta`. Grants whose job was deleted from outside are dropped. The indexes by which jobs and
+    /// grants are found are made where they aren't those of a store. All this is done in one
+    /// transaction.
     ///
     /// # Errors
     ///
@@ -105,7 +112,8 @@ impl<S: Alter> Store<S> {
         Ok(())
     }
 
-    /// Tests whether the version is this one and each hold has its job, has the version be 2, and counts the calls.
+    /// Tests whether the version is this one and each hold has its job, makes the rows those of
+    /// version 3, and counts the calls.
     fn fill(&mut self, version: u32) -> Result<(), StoreFault>
         ensures leaves { Turns HasNone (IsFilled version) (shown S.Store self.old) (shown S.Store self.new) result }
         ensures counted { (m : Queue) (k : Ledger) → HasNone (shown S.Store self.old)
@@ -115,22 +123,90 @@ impl<S: Alter> Store<S> {
             → HasNone (shown S.Store self.old) → versions (shown S.Store self.old).now ≡ number version ∷ []
             → ¬ HoldsCanBeCalled (shown S.Store self.old).now }
     {
-        self.settle_version(version)?;
+        self.test_version(version)?;
         self.test_holds()?;
+        self.settle_version(version)?;
         self.count_holds()
     }
 
-    /// Tests whether meta has one row, of this version, and has the version be 2.
+    /// Makes the rows of this version those of version 3.
     fn settle_version(&mut self, version: u32) -> Result<(), StoreFault>
-        ensures leaves { Turns HasNone (IsSettled version) (shown S.Store self.old) (shown S.Store self.new) result }
-        ensures strange { HasNone (shown S.Store self.old) → HasCleanDisk (shown S.Store self.new)
-            → result ≡ Err StoreFault.Strange → ¬ (versions (shown S.Store self.old).now ≡ number version ∷ []) }
+        ensures { TurnsOrUnavailable HasNone (IsSettled version) (shown S.Store self.old) (shown S.Store self.new)
+            result }
     {
-        self.test_version(version)?;
-        if version != 1 {
+        if version == 3 {
             return Ok(());
         }
+        self.drop_strays()?;
+        self.time_jobs()?;
         self.run(UPDATE_VERSION, &[])
+    }
+
+    /// Deletes the grants whose job isn't there.
+    fn drop_strays(&mut self) -> Result<(), StoreFault>
+        ensures { TurnsOrUnavailable HasNone HasNoStrays (shown S.Store self.old) (shown S.Store self.new) result }
+    {
+        let strays = self.show(SELECT_STRAYS, &[])?;
+        self.drop_rows(strays.as_slice())
+    }
+
+    /// Deletes the grants whose number one of these rows has.
+    fn drop_rows(&mut self, rows: &[Row]) -> Result<(), StoreFault>
+        ensures { TurnsOrUnavailable HasNone (AreDropped rows.now) (shown S.Store self.old) (shown S.Store self.new)
+            result }
+    {
+        for row in rows {
+            self.drop_row(row)?;
+        }
+        Ok(())
+    }
+
+    /// Deletes the grant whose number a row has.
+    fn drop_row(&mut self, row: &Row) -> Result<(), StoreFault>
+        ensures { TurnsOrUnavailable HasNone (AreDropped (row.now ∷ [])) (shown S.Store self.old)
+            (shown S.Store self.new) result }
+    {
+        let grant = row.get_ref(0)?;
+        self.run(DELETE_GRANT, &[grant])
+    }
+
+    /// Puts in the times of all jobs, by the clock of meta.
+    fn time_jobs(&mut self) -> Result<(), StoreFault>
+        ensures { TurnsOrUnavailable HasNone HasTimes (shown S.Store self.old) (shown S.Store self.new) result }
+    {
+        // Meta has one row, so some row is found.
+        let Some(meta) = self.find(SELECT_META, &[])? else {
+            return Err(StoreFault::Unavailable);
+        };
+        let clock = meta.get_ref(0)?;
+        let jobs = self.show(SELECT_PHASES, &[])?;
+        self.time_rows(jobs.as_slice(), clock)
+    }
+
+    /// Puts in the times of the jobs in rows of their numbers and phases.
+    fn time_rows<'v>(&mut self, rows: &'v [Row], clock: ValueRef<'v>) -> Result<(), StoreFault>
+        ensures { TurnsOrUnavailable HasNone (AreTimed (owned clock.entry) rows.now) (shown S.Store self.old)
+            (shown S.Store self.new) result }
+    {
+        for row in rows {
+            self.time_row(row, clock)?;
+        }
+        Ok(())
+    }
+
+    /// Puts in the times of the job in a row of its number and phase.
+    fn time_row<'v>(&mut self, row: &'v Row, clock: ValueRef<'v>) -> Result<(), StoreFault>
+        ensures { TurnsOrUnavailable HasNone (AreTimed (owned clock.entry) (row.now ∷ [])) (shown S.Store self.old)
+            (shown S.Store self.new) result }
+    {
+        let job = row.get_ref(0)?;
+        let phase = row.get_ref(1)?;
+        let ended = if is_over_phase(phase) {
+            clock
+        } else {
+            ValueRef::Int(0)
+        };
+        self.run(INSERT_TIMES, &[job, ValueRef::Int(0), ended])
     }
 
     /// Tests whether meta has one row, of this version.
@@ -240,5 +316,11 @@ impl<S: Alter> Store<S> {
 fn version_in(schema: &Schema) -> u32
     ensures { result ≡ version_of schema.now }
 {
-    if has_floors(schema) { 2 } else { 1 }
+    if has_times(schema) {
+        3
+    } else if has_floors(schema) {
+        2
+    } else {
+        1
+    }
 }

@@ -1,17 +1,20 @@
 //! The jobs.
 
-ghost use Rattle.std.specs.Prelude.{◌≡◌, ◌<◌, map, false, Err, IfErr, IfNone, IfOk, IfSome, is_err};
+ghost use Rattle.std.specs.Prelude.{◌≡◌, ◌<◌, ℕ, List, [], ◌∷◌, map, None, Err, IfErr, IfNone, IfOk, IfSome, is_err};
 ghost use Rattle.std.specs.Option.{option_map};
 ghost use Rattle.fax_core.specs.Job.{job_of, fields_of};
 ghost use Rattle.fax_core.specs.Queue.{job_numbered};
-ghost use Rattle.fax_store.specs.Calls.{LooksUp, Makes, MakesIf, MakesIfWhere, MakesWhere, Recalls, RecallsLawful, RecallsOnly, RecallsRows, Tells, Writes, WritesIf, WritesIfWhere, WritesWhere};
-ghost use Rattle.fax_store.specs.Job.{BriefStands, BriefsStand, BriefsStandFrom, HasJobRow, JobStands, IsChange, IsNewJob, IsWaiting, jobs_from, with_change, with_placed, with_one_more_job, with_expired, with_expired_in};
+ghost use Rattle.fax_store.specs.Calls.{LooksUp, Makes, MakesIfWhere, MakesWhere, Recalls, RecallsLawful, RecallsOnly, Tells, Writes, WritesIf, WritesIfWhere, WritesWhere};
+ghost use Rattle.fax_store.specs.Job.{BriefStands, BriefsStand, BriefsStandFrom, HasJobRow, JobStands, IsChange, IsNewJob, IsWaiting, jobs_from, with_change, with_placed, with_one_more_job, with_expired, with_expired_in, with_failed_in, with_set};
 ghost use Rattle.fax_store.specs.Meta.{IsJobLeft, with_clock};
+ghost use Rattle.fax_store.specs.Times.{is_among, is_expired};
 ghost use Rattle.fax_tables.specs.Job.{brief};
 ghost use Rattle.fax_tables.specs.Meta.{meta_of};
+ghost use Rattle.fax_tables.specs.Row.{number};
 
 use crate::store::Store;
 use crate::work::Work;
+use fax_core::has_ended;
 use fax_job::{Job, Moment, Phase};
 use fax_schema::statements::{
     EXPIRE_JOBS, INSERT_JOB, SELECT_BRIEF, SELECT_BRIEFS, SELECT_BRIEFS_FROM, SELECT_EXPIRED,
@@ -21,7 +24,7 @@ use fax_tables::{
     Meta, PAST_JOBS, StoreFault, brief_in, briefs_in, job_in, jobs_in, killtime_number,
     phase_number, spelling, wish_number,
 };
-use sqlite::{Alter, params};
+use sqlite::{Alter, Row, params};
 
 impl<S: Alter> Store<S> {
     /// The job of this number.
@@ -96,7 +99,7 @@ impl<S: Alter> Store<S> {
     }
 
     fn insert_job(&mut self, job: &Job) -> Result<(), StoreFault>
-        ensures { WritesIf S.Store self.old self.new result (λ m k. IsNewJob (job_of job.now) m)
+        ensures { WritesIf S.Store self.old self.new result (λ m k. job_numbered job.now.job m ≡ None)
             (with_placed (job_of job.now)) (λ k. k) }
     {
         let job = job.fields();
@@ -128,9 +131,10 @@ impl<S: Alter> Store<S> {
         )
     }
 
-    fn write_change(&mut self, job: &Job) -> Result<(), StoreFault>
+    /// Sets what a change may set of a job.
+    fn set_job(&mut self, job: &Job) -> Result<(), StoreFault>
         ensures { WritesWhere S.Store self.old self.new result (IsChange (job_of job.now))
-            (with_change (job_of job.now)) (λ k. k) }
+            (with_set (job_of job.now)) (λ k. k) }
     {
         let job = job.fields();
         self.run(
@@ -157,6 +161,19 @@ impl<S: Alter> Store<S> {
         )
     }
 
+    /// Sets it, and where the job is over has it end at `t`.
+    fn write_change(&mut self, job: &Job, t: Moment) -> Result<(), StoreFault>
+        ensures { WritesWhere S.Store self.old self.new result (IsChange (job_of job.now))
+            (with_change t (job_of job.now)) (λ k. k) }
+    {
+        self.set_job(job)?;
+        let fields = job.fields();
+        if !has_ended(fields.phase) {
+            return Ok(());
+        }
+        self.end_job(fields.job, t)
+    }
+
     fn write_expired(&mut self, t: Moment) -> Result<(), StoreFault>
         ensures { Writes S.Store self.old self.new result (with_expired t) (λ k. k) }
     {
@@ -164,43 +181,46 @@ impl<S: Alter> Store<S> {
         self.expire_in(Phase::Waiting, t)
     }
 
-    /// Whether a job of this phase has a kill time from 1 to `t`. An index has the answer.
-    fn has_expired(&mut self, phase: Phase, t: Moment) -> Result<bool, StoreFault>
-        ensures { RecallsOnly S.Store self.old self.new result (λ m k found. found ≡ false
-            → with_expired_in phase t m ≡ m) }
+    /// The numbers of the jobs of this phase whose kill time is from 1 to `t`, in any order. An index has the answer.
+    fn expired(&mut self, phase: Phase, t: Moment) -> Result<Vec<Row>, StoreFault>
+        ensures { RecallsOnly S.Store self.old self.new result (λ m k found.
+            (numbers : List ℕ) × (found.items ≡ map (λ n. number n ∷ []) numbers)
+            × ((n : ℕ) → is_among numbers n ≡ is_expired phase t (job_numbered n m))) }
     {
-        let row = self.find(SELECT_EXPIRED, params![t.seconds(), phase_number(phase)])?;
-        Ok(row.is_some())
+        let rows = self.show(SELECT_EXPIRED, params![t.seconds(), phase_number(phase)])?;
+        Ok(rows)
     }
 
-    /// Lets each job of this phase fail whose kill time is from 1 to `t`. One phase at a time, since
+    /// Lets each job of this phase fail, and end at `t`, whose kill time is from 1 to `t`. One phase at a time, since
     /// the index that finds them is by phase first. Where there is none, a question costs less than the change.
     fn expire_in(&mut self, phase: Phase, t: Moment) -> Result<(), StoreFault>
         ensures { Writes S.Store self.old self.new result (with_expired_in phase t) (λ k. k) }
     {
-        if self.has_expired(phase, t)? {
-            return self.run(EXPIRE_JOBS, params![t.seconds(), phase_number(phase)]);
+        let expired = self.expired(phase, t)?;
+        if expired.len() == 0 {
+            return Ok(());
         }
-        Ok(())
+        self.end_rows(expired.as_slice(), t)?;
+        self.fail_in(phase, t)
     }
 
-    fn add_job(&mut self, job: &Job) -> Result<(), StoreFault>
-        ensures { WritesIf S.Store self.old self.new result (λ m k. IsNewJob (job_of job.now) m × IsJobLeft m)
-            (with_one_more_job (job_of job.now)) (λ k. k) }
+    /// Lets each job of this phase fail whose kill time is from 1 to `t`, and leaves its end as it is.
+    fn fail_in(&mut self, phase: Phase, t: Moment) -> Result<(), StoreFault>
+        ensures { Writes S.Store self.old self.new result (with_failed_in phase t) (λ k. k) }
     {
-        let meta = self.meta()?;
-        self.add_next_job(job, meta, meta.clock)
+        self.run(EXPIRE_JOBS, params![t.seconds(), phase_number(phase)])
     }
 
     fn add_next_job(&mut self, job: &Job, meta: Meta, clock: Moment) -> Result<(), StoreFault>
         ensures { WritesIfWhere S.Store self.old self.new result (λ m. meta ≡ meta_of m)
             (λ m k. (meta ≡ meta_of m) × IsNewJob (job_of job.now) m × IsJobLeft m)
-            (λ m. with_clock clock (with_one_more_job (job_of job.now) m)) (λ k. k) }
+            (λ m. with_clock clock (with_one_more_job clock (job_of job.now) m)) (λ k. k) }
     {
         if meta.next_job >= PAST_JOBS {
             return Err(StoreFault::Strange);
         }
         self.insert_job(job)?;
+        self.insert_times(job, clock)?;
         self.write_meta(Meta {
             clock,
             next_job: meta.next_job + 1,
@@ -244,25 +264,8 @@ impl<S: Alter> Work<'_, S> {
         found
     }
 
-    /// Adds a job of a number that no job has, and makes the next number one greater.
-    ///
-    /// # Errors
-    ///
-    /// `Unavailable`, or `Strange` where a job has the number or no next number is left.
-    pub fn put_job(&mut self, job: &Job) -> Result<(), StoreFault>
-        ensures { MakesIf S.Store self.old self.new result (λ m k. IsNewJob (job_of job.now) m × IsJobLeft m)
-            (with_one_more_job (job_of job.now)) (λ k. k) }
-    {
-        if self.failed {
-            return Err(StoreFault::Unavailable);
-        }
-        let done = self.store.add_job(job);
-        self.failed = done.is_err();
-        done
-    }
-
-    /// Adds a job of a number that no job has, makes the next number one greater and sets the clock. `meta` has the
-    /// clock and the next numbers before, which aren't read again.
+    /// Adds a job of a number that no job has, which came in at `clock`, makes the next number one greater and sets the
+    /// clock. `meta` has the clock and the next numbers before, which aren't read again.
     ///
     /// # Errors
     ///
@@ -270,7 +273,7 @@ impl<S: Alter> Work<'_, S> {
     pub fn put_next_job(&mut self, job: &Job, meta: Meta, clock: Moment) -> Result<(), StoreFault>
         ensures { MakesIfWhere S.Store self.old self.new result (λ m. meta ≡ meta_of m)
             (λ m k. (meta ≡ meta_of m) × IsNewJob (job_of job.now) m × IsJobLeft m)
-            (λ m. with_clock clock (with_one_more_job (job_of job.now) m)) (λ k. k) }
+            (λ m. with_clock clock (with_one_more_job clock (job_of job.now) m)) (λ k. k) }
     {
         if self.failed {
             return Err(StoreFault::Unavailable);
@@ -282,25 +285,25 @@ impl<S: Alter> Work<'_, S> {
 
     /// Sets what a change may set of the job of this number: the modem, the tag, the times, the
     /// priority, the pages sent, the tries and dials with their limits, the status, and where it
-    /// stands. The number to dial, the pages and the extra lines stay as they are there, so that a job
+    /// stands. Where the job is over, it ends at `t`. The number to dial, the pages and the extra lines stay as they are there, so that a job
     /// without its lines will do. Where no job has the number, nothing changes.
     ///
     /// # Errors
     ///
     /// `Unavailable`.
-    pub fn put_change(&mut self, job: &Job) -> Result<(), StoreFault>
+    pub fn put_change(&mut self, job: &Job, t: Moment) -> Result<(), StoreFault>
         ensures { MakesWhere S.Store self.old self.new result (IsChange (job_of job.now))
-            (with_change (job_of job.now)) (λ k. k) }
+            (with_change t (job_of job.now)) (λ k. k) }
     {
         if self.failed {
             return Err(StoreFault::Unavailable);
         }
-        let done = self.store.write_change(job);
+        let done = self.store.write_change(job, t);
         self.failed = done.is_err();
         done
     }
 
-    /// Lets each held or waiting job fail whose kill time is from 1 to `t`.
+    /// Lets each held or waiting job fail, and end at `t`, whose kill time is from 1 to `t`.
     ///
     /// # Errors
     ///

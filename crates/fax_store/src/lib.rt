@@ -15,6 +15,7 @@ mod modems;
 mod replies;
 mod shut;
 mod store;
+mod times;
 mod work;
 
 pub use candidates::Candidates;

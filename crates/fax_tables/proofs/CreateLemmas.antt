@@ -27,15 +27,15 @@ use Rattle.fax_schema.specs.declared.statements.TheConstants.{INSERT_META}
 use Rattle.fax_core.specs.Ledger.{empty_ledger}
 use Rattle.fax_core.specs.Queue.{empty_queue}
 use Rattle.fax_schema.specs.Schema as schema
-use Rattle.fax_schema.specs.Schema.{no_tables, first_bare, first_list, second_list, core_list, bare_tables, core_tables, our_tables, has_floors, meta_tree}
+use Rattle.fax_schema.specs.Schema.{no_tables, first_bare, first_list, second_list, both_list, added_list, core_list, second_bare, bare_tables, core_tables, our_tables, has_floors, has_times, floors_tree, times_tree, meta_tree}
 use Rattle.fax_tables.specs.Row.{meta_row}
-use Rattle.fax_tables.specs.Tables.{GoesOn, HasEmptyTables, Renews, TablesMean, second_in}
+use Rattle.fax_tables.specs.Tables.{GoesOn, HasEmptyTables, Renews, TablesMean, added_in, has_added}
 use Rattle.fax_tables.proofs.TablesLemmas.{Name, founded, is_ours, meta, rows_kept, tree_of}
 use Rattle.fax_schema.proofs.CreateTexts.{AddsIndex, LosesIndex, TakesAway}
 use Rattle.fax_schema.proofs.StatementForms.{Makes}
 use Rattle.fax_schema.proofs.CompareLemmas.{same_row, cast_int, cast_null}
 use Rattle.fax_schema.proofs.StatementTexts.{insert_meta}
-use Rattle.fax_schema.proofs.RowsLemmas.{all_behind, all_front, all_given, all_mapped, at_tree}
+use Rattle.fax_schema.proofs.RowsLemmas.{all_behind, all_front, at_tree}
 pub use Rattle.fax_schema.proofs.RowsLemmas.{kept_rows}
 use Rattle.fax_schema.proofs.WriteLemmas.{went, unreferred, inserts}
 
@@ -135,70 +135,103 @@ lost_index old new before after sql count loses h inside has =
       subst (λ (d : Database). KeepsRows after.tables old.now.trees d.trees) (sym now) (subst (λ (s : Schema). KeepsRows s.tables old.now.trees left.0.trees) loses.left left.1.1),
     )
 
--- one more index of jobs, and the rows that there were
+-- one more index, and the rows that there were
 pub made_index : (old new : State) (before after : Schema) (sql : List ℕ) (count : ℕ) → AddsIndex before sql after → Executes sql [] old new (Ok count) → IsTrue old.in_transaction
     → old.now.schema ≡ before
     → GoesOn old new × (new.now.schema ≡ after) × IsDatabase new.now × KeepsRows before.tables old.now.trees new.now.trees
 made_index old new before after sql count makes h inside has =
-    let ran = runs_as sql [] old new before has (CreateIndex 0) makes.command makes.plain count h in
+    let ran = runs_as sql [] old new before has (CreateIndex makes.at) makes.command makes.plain count h in
     let out = Ok (ran.tally, new.now) in
-    let does = subst (λ s. Does old.step_limit (mode_of old) [] (record old.now { schema = s }) (statement_of sql (understood before sql)) None (CreateIndex 0) out) has ran.changed in
+    let does = subst (λ s. Does old.step_limit (mode_of old) [] (record old.now { schema = s }) (statement_of sql (understood before sql)) None (CreateIndex makes.at) out) has ran.changed in
     let on = subst (λ t. AtPlace (λ (table : Table). Defines (mode_of old) (MakesIndex (statement_of sql (understood before sql)) (record old.now { schema = before }) table)) t out) makes.has does in
     let made = went on in
     let now : new.now ≡ made.0 = ap (λ (p : Tally × Database). p.1) (same_ok made.2) in
-    let text = ap (index_defined_by schema.jobs) makes.statement ∙ makes.defined in
-    let defined : made.1.index ≡ record (makes.index) { tree = 0; table = 0 } = same_ok (sym made.1.defined ∙ text) in (
+    let text = ap (index_defined_by makes.table) makes.statement ∙ makes.defined in
+    let defined : made.1.index ≡ record (makes.index) { tree = 0; table = (makes.table).tree } = same_ok (sym made.1.defined ∙ text) in (
       inside_shown old new _ inside ran.shown,
-      ap (λ (d : Database). d.schema) now ∙ made.1.is ∙ ap (indexed before schema.jobs) defined ∙ makes.is,
+      ap (λ (d : Database). d.schema) now ∙ made.1.is ∙ ap (indexed before makes.table) defined ∙ makes.is,
       ran.sound,
       subst (λ (d : Database). KeepsRows before.tables old.now.trees d.trees) (sym now) made.1.rows,
     )
 
 -- ---- all rows but those of `calls`
 
--- where the schema is of the second version, the rows of its tables are those
-pub second_there : (db : Database) (schema : Schema) (tree : ℕ) → db.schema ≡ schema → has_floors schema ≡ true → second_in db tree ≡ db.trees tree
-second_there db schema tree is there = ap (λ b. if b then db.trees tree else []) (ap has_floors is ∙ there)
+-- where a table that came later is there, the rows are those of its tree
+pub added_there : (db : Database) (schema : Schema) (tree : ℕ) → db.schema ≡ schema → has_added schema tree ≡ true → added_in db tree ≡ db.trees tree
+added_there db schema tree is there = ap (λ b. if b then db.trees tree else []) (ap (λ (s : Schema). has_added s tree) is ∙ there)
 
--- and where it is of the first, there are none
-second_none : (db : Database) (schema : Schema) (tree : ℕ) → db.schema ≡ schema → has_floors schema ≡ false → second_in db tree ≡ []
-second_none db schema tree is none = ap (λ b. if b then db.trees tree else []) (ap has_floors is ∙ none)
+-- and where it isn't, there are none
+pub added_none : (db : Database) (schema : Schema) (tree : ℕ) → db.schema ≡ schema → has_added schema tree ≡ false → added_in db tree ≡ []
+added_none db schema tree is none = ap (λ b. if b then db.trees tree else []) (ap (λ (s : Schema). has_added s tree) is ∙ none)
+
+-- Of such a table: it is in both and has its rows, or in neither, or it came with none.
+abbrev pub AddedStays : Database → Database → ℕ → Type 0
+AddedStays db after tree = added_in after tree ≡ added_in db tree
+
+stays_there : (db after : Database) (a c : Schema) (tree : ℕ) → db.schema ≡ a → after.schema ≡ c → has_added a tree ≡ true → has_added c tree ≡ true → after.trees tree ≡ db.trees tree → AddedStays db after tree
+stays_there db after a c tree was is there still same = added_there after c tree is still ∙ same ∙ sym (added_there db a tree was there)
+
+stays_none : (db after : Database) (a c : Schema) (tree : ℕ) → db.schema ≡ a → after.schema ≡ c → has_added a tree ≡ false → has_added c tree ≡ false → AddedStays db after tree
+stays_none db after a c tree was is none still = added_none after c tree is still ∙ sym (added_none db a tree was none)
+
+came : (db after : Database) (a c : Schema) (tree : ℕ) → db.schema ≡ a → after.schema ≡ c → has_added a tree ≡ false → has_added c tree ≡ true → after.trees tree ≡ [] → AddedStays db after tree
+came db after a c tree was is none there empty = added_there after c tree is there ∙ empty ∙ sym (added_none db a tree was none)
+
+abbrev Same : Database → Database → Table → Type 0
+Same db after t = after.trees t.tree ≡ db.trees t.tree
 
 -- of the first version, which stays
-pub renews_first : (db after : Database) (a c : Schema) → has_floors a ≡ false → has_floors c ≡ false → db.schema ≡ a → after.schema ≡ c → KeepsRows first_list db.trees after.trees → Renews db after
-renews_first db after a c none still was is rows = record {
+pub renews_first : (db after : Database) (a c : Schema) → has_floors a ≡ false → has_times a ≡ false → has_floors c ≡ false → has_times c ≡ false → db.schema ≡ a → after.schema ≡ c → KeepsRows first_list db.trees after.trees → Renews db after
+renews_first db after a c no_floors no_times still_none none was is rows = record {
   rows = rows;
-  second = all_given (λ t. second_in after t.tree ≡ second_in db t.tree) second_list (λ t. second_none after c t.tree is still ∙ sym (second_none db a t.tree was none));
+  added = (stays_none db after a c floors_tree was is no_floors still_none, (stays_none db after a c times_tree was is no_times none, tt));
 }
 
 -- of the second
-pub renews_core : (db after : Database) (a c : Schema) → has_floors a ≡ true → has_floors c ≡ true → db.schema ≡ a → after.schema ≡ c → KeepsRows core_list db.trees after.trees → Renews db after
-renews_core db after a c there still was is rows = record {
-  rows = all_front (λ t. after.trees t.tree ≡ db.trees t.tree) first_list second_list rows;
-  second = all_mapped (λ t. after.trees t.tree ≡ db.trees t.tree) (λ t. second_in after t.tree ≡ second_in db t.tree) second_list
-      (λ t same. second_there after c t.tree is still ∙ same ∙ sym (second_there db a t.tree was there)) (all_behind (λ t. after.trees t.tree ≡ db.trees t.tree) first_list second_list rows);
+pub renews_second : (db after : Database) (a c : Schema) → has_floors a ≡ true → has_times a ≡ false → has_floors c ≡ true → has_times c ≡ false → db.schema ≡ a → after.schema ≡ c → KeepsRows both_list db.trees after.trees → Renews db after
+renews_second db after a c floors no_times still none was is rows = record {
+  rows = all_front (Same db after) first_list second_list rows;
+  added = (stays_there db after a c floors_tree was is floors still (all_behind (Same db after) first_list second_list rows).0, (stays_none db after a c times_tree was is no_times none, tt));
 }
 
--- of the first, to which the tables of the second come, with no rows
-pub renews_raised : (db after : Database) → db.schema ≡ first_bare → after.schema ≡ bare_tables → KeepsRows first_list db.trees after.trees
-    → AllByRecursion (λ t. after.trees t.tree ≡ []) second_list → Renews db after
+-- of the third
+pub renews_core : (db after : Database) (a c : Schema) → has_floors a ≡ true → has_times a ≡ true → has_floors c ≡ true → has_times c ≡ true → db.schema ≡ a → after.schema ≡ c → KeepsRows core_list db.trees after.trees → Renews db after
+renews_core db after a c floors times still_floors still_times was is rows =
+    let there = all_behind (Same db after) first_list added_list rows in
+    record {
+      rows = all_front (Same db after) first_list added_list rows;
+      added = (stays_there db after a c floors_tree was is floors still_floors there.0, (stays_there db after a c times_tree was is times still_times there.1.0, tt));
+    }
+
+-- of the first, to which floors come, with no rows
+pub renews_raised : (db after : Database) → db.schema ≡ first_bare → after.schema ≡ second_bare → KeepsRows first_list db.trees after.trees → after.trees floors_tree ≡ [] → Renews db after
 renews_raised db after was is rows none = record {
   rows = rows;
-  second = all_mapped (λ t. after.trees t.tree ≡ []) (λ t. second_in after t.tree ≡ second_in db t.tree) second_list (λ t empty. second_there after bare_tables t.tree is refl ∙ empty ∙ sym (second_none db first_bare t.tree was refl)) none;
+  added = (came db after first_bare second_bare floors_tree was is refl refl none, (stays_none db after first_bare second_bare times_tree was is refl refl, tt));
+}
+
+-- of the second, to which times come, with no rows
+pub renews_timed : (db after : Database) → db.schema ≡ second_bare → after.schema ≡ bare_tables → KeepsRows both_list db.trees after.trees → after.trees times_tree ≡ [] → Renews db after
+renews_timed db after was is rows none = record {
+  rows = all_front (Same db after) first_list second_list rows;
+  added = (
+    stays_there db after second_bare bare_tables floors_tree was is refl refl (all_behind (Same db after) first_list second_list rows).0,
+    (came db after second_bare bare_tables times_tree was is refl refl none, tt),
+  );
 }
 
 -- and then again
 pub renews_then : (a b c : Database) → Renews a b → Renews b c → Renews a c
 renews_then a b c first next = record {
   rows = kept_rows first_list a.trees b.trees c.trees first.rows next.rows;
-  second = kept_rows second_list (second_in a) (second_in b) (second_in c) first.second next.second;
+  added = kept_rows added_list (added_in a) (added_in b) (added_in c) first.added next.added;
 }
 
 -- ---- tables with no rows
 
 -- the row of meta of an empty store is stored as it is
 stored_meta : cast_row schema.meta (meta_row empty_queue) ≡ meta_row empty_queue
-stored_meta = same_row (cast_int (pos 1)) (same_row cast_null (same_row (cast_int (pos 0)) (same_row (cast_int (pos 1)) (same_row (cast_int (pos 1)) (same_row (cast_int (pos 2)) refl)))))
+stored_meta = same_row (cast_int (pos 1)) (same_row cast_null (same_row (cast_int (pos 0)) (same_row (cast_int (pos 1)) (same_row (cast_int (pos 1)) (same_row (cast_int (pos 3)) refl)))))
 
 -- the one row of meta makes the empty store of empty tables
 pub filled : (old new : State) (count : ℕ) → Executes INSERT_META.now [] old new (Ok count) → HasEmptyTables our_tables old → GoesOn old new × TablesMean new.now empty_queue empty_ledger

@@ -70,7 +70,7 @@ turned old new sql to n (inr (inr (inr loses))) ran inside =
 -- by a command that ends no transaction
 command_is : (before to : Schema) (sql : List ℕ) → Turns before sql to → (command : Command) × (command_of (understood before sql) ≡ command) × (Ends command → ⊥)
 command_is before to sql (inl adds) = (CreateTable, (adds.makes).command, λ e. e)
-command_is before to sql (inr (inl adds)) = (CreateIndex 0, adds.command, λ e. e)
+command_is before to sql (inr (inl adds)) = (CreateIndex adds.at, adds.command, λ e. e)
 command_is before to sql (inr (inr (inl takes))) = (DropTable takes.at, takes.command, λ e. e)
 command_is before to sql (inr (inr (inr loses))) = (DropIndex loses.at, loses.command, λ e. e)
 
@@ -220,7 +220,7 @@ module _ {S : Type 0} (g : Ghosts S) where
       record {
         schema_is = it.on;
         sound = (it.turned).sound;
-        renews = λ ours. renews_core (state g a).now (state g b).now core_tables our_tables refl refl was.schema_is it.on (kept_in core_list core_list our_tables.tables (state g a).now.trees (state g b).now.trees refl refl rows);
+        renews = λ ours. renews_core (state g a).now (state g b).now core_tables our_tables refl refl refl refl was.schema_is it.on (kept_in core_list core_list our_tables.tables (state g a).now.trees (state g b).now.trees refl refl rows);
         empty = λ none. still_none (state g a).now.schema.tables (state g b).now.schema.tables (state g a).now.trees (state g b).now.trees none (it.turned).rows;
         none = at_tree (λ tree. (state g b).now.trees tree ≡ only_in core_list (state g a).now.trees tree) our_tables.tables calls_tree refl rows;
       }) (λ was. tt) (text g a b CREATE_CALLS.now next r survives runs)

@@ -48,7 +48,7 @@ use Rattle.fax_schema.proofs.WriteLemmas.{unreferred}
 pub unasked : (among : Among) (trees : Trees) → Refers among our_tables trees
 unasked among trees =
     all_mapped (λ t. t.references ≡ []) (λ t. Asks t t.references) our_tables.tables (λ t bare. subst (Asks t) (sym bare) (all_of _ (λ r. refl) (trees t.tree)))
-    (refl, (refl, (refl, (refl, (refl, (refl, (refl, (refl, tt))))))))
+    (refl, (refl, (refl, (refl, (refl, (refl, (refl, (refl, (refl, tt)))))))))
   where
     Asks : Table → List Reference → Type 0
     Asks t refs = AllByRecursion (λ row. list_all (λ ref. not (is_among among ref) || has_parent our_tables.tables trees row ref) refs ≡ true) (trees t.tree)

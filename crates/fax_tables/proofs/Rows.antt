@@ -1,15 +1,22 @@
 -- Worked rows: records as they stand in the tables.
-use Rattle.std.specs.Prelude.{◌≡◌, refl, true, false, pos, [], ◌∷◌, ◌++◌, map, codes, Some, None}
+use Rattle.std.specs.Prelude.{◌≡◌, ◌==◌, ℕ, refl, true, false, pos, List, [], ◌∷◌, ◌++◌, map, codes, Some, None, if◌then◌else◌}
+use Rattle.sqlite.specs.Effect.{Database}
+use Rattle.sqlite.specs.Order.{Row}
 use Rattle.sqlite.specs.declared.types.Value.TheVariants.{Null, Int, Text, Blob}
 use Rattle.fax_core.specs.Queue.{empty_queue}
 use Rattle.fax_core.specs.declared.grants.Grant.{Grant}
 use Rattle.fax_job.specs.Pair.{pair}
 use Rattle.fax_job.specs.declared.job.JobFields.{JobFields}
+use Rattle.fax_job.specs.declared.job.Phase.{Phase}
 use Rattle.fax_job.specs.declared.job.Phase.TheVariants.{Held, Waiting, Granted, Done, Failed}
+use Rattle.fax_schema.specs.Schema.{second_tables, grants_tree, jobs_tree, meta_tree}
+use Rattle.sqlite_sql.specs.Ops.{binary}
+use Rattle.sqlite_value.specs.Order.{value_cmp}
+use Rattle.fax_tables.specs.Tables.{grants_in, meta_in, times_in}
 use Rattle.fax_job.specs.declared.job.Wish.TheVariants.{Go, Hold, Kill}
 use Rattle.fax_job.specs.declared.job.Call.TheVariants.{Connected, Busy, NoAnswer, NoCarrier, Other}
 use Rattle.fax_core.specs.Ledger.{entry}
-use Rattle.fax_tables.specs.Row.{phase_number, wish_number, call_number, job_row, grant_row, hold_columns, down_columns, entry_columns, call_columns, floor_columns, meta_row, raised}
+use Rattle.fax_tables.specs.Row.{phase_number, wish_number, call_number, job_row, grant_row, hold_columns, down_columns, entry_columns, call_columns, floor_columns, meta_row, raised, times_row}
 
 -- ---- numbers that stand for words
 
@@ -83,8 +90,8 @@ down_stands = refl
 reply_stands : entry_columns (entry (codes "ann") 9 (codes "/jobs") 201 (codes "{}")) ≡ Text (codes "ann") ∷ Int (pos 9) ∷ Blob (codes "/jobs") ∷ Int (pos 201) ∷ Blob (codes "{}") ∷ []
 reply_stands = refl
 
--- meta: the clock, the next numbers and version 2
-meta_stands : meta_row (record empty_queue { clock = 5; next_job = 8; next_grant = 3 }) ≡ Int (pos 1) ∷ Null ∷ Int (pos 5) ∷ Int (pos 8) ∷ Int (pos 3) ∷ Int (pos 2) ∷ []
+-- meta: the clock, the next numbers and version 3
+meta_stands : meta_row (record empty_queue { clock = 5; next_job = 8; next_grant = 3 }) ≡ Int (pos 1) ∷ Null ∷ Int (pos 5) ∷ Int (pos 8) ∷ Int (pos 3) ∷ Int (pos 3) ∷ []
 meta_stands = refl
 
 -- a number to dial, with two calls
@@ -95,6 +102,44 @@ call_stands = refl
 floor_stands : floor_columns (codes "desk") 3 ≡ Text (codes "desk") ∷ Int (pos 3) ∷ []
 floor_stands = refl
 
+-- a job's times: it came in at 1000 and ended at 1086
+times_stand : times_row (record { job = 1; submitted = 1000; ended = 1086 }) ≡ Int (pos 1) ∷ Null ∷ Int (pos 1000) ∷ Int (pos 1086) ∷ []
+times_stand = refl
+
 -- a row of the first version
 raised_stands : raised (Int (pos 1) ∷ Null ∷ Int (pos 5) ∷ Int (pos 8) ∷ Int (pos 3) ∷ Int (pos 1) ∷ []) ≡ meta_row (record empty_queue { clock = 5; next_job = 8; next_grant = 3 })
 raised_stands = refl
+
+-- ---- files of the second version, as the third has them
+
+-- a file of these jobs and grants, whose clock is 1086
+file : List Row → List Row → Database
+file jobs grants = record {
+  schema = second_tables;
+  trees = λ tree. if tree == jobs_tree then jobs else if tree == grants_tree then grants else if tree == meta_tree then (Int (pos 1) ∷ Null ∷ Int (pos 1086) ∷ Int (pos 4) ∷ Int (pos 2) ∷ Int (pos 2) ∷ []) ∷ [] else [];
+}
+
+-- the row of a job of this number and phase
+numbered : ℕ → Phase → Row
+numbered number phase = job_row (record job { job = number; phase = phase })
+
+-- a job that is over ended at the clock, and when it came in isn't known
+over_timed : times_in (file (numbered 1 Done ∷ numbered 2 Failed ∷ numbered 3 Waiting ∷ []) []) ≡
+    (Int (pos 1) ∷ Null ∷ Int (pos 0) ∷ Int (pos 1086) ∷ []) ∷ (Int (pos 2) ∷ Null ∷ Int (pos 0) ∷ Int (pos 1086) ∷ []) ∷ (Int (pos 3) ∷ Null ∷ Int (pos 0) ∷ Int (pos 0) ∷ []) ∷ []
+unfolding file numbered
+over_timed = refl
+
+-- where job 1 was deleted with its grants, those that are there stay
+strays_deleted : grants_in (file (numbered 2 Done ∷ numbered 3 Waiting ∷ []) (grant_row (record closed { number = 2; job = 2 }) ∷ [])) ≡ grant_row (record closed { number = 2; job = 2 }) ∷ []
+unfolding file numbered binary value_cmp lib.Ieee.is_nan lib.Ieee.lt
+strays_deleted = refl
+
+-- where it was deleted without them, its closed grant doesn't
+stray_left : grants_in (file (numbered 2 Done ∷ numbered 3 Waiting ∷ []) (grant_row (record closed { job = 1 }) ∷ grant_row (record closed { number = 2; job = 2 }) ∷ [])) ≡ grant_row (record closed { number = 2; job = 2 }) ∷ []
+unfolding file numbered binary value_cmp lib.Ieee.is_nan lib.Ieee.lt
+stray_left = refl
+
+-- and meta has version 3
+file_raised : meta_in (file [] []) ≡ (Int (pos 1) ∷ Null ∷ Int (pos 1086) ∷ Int (pos 4) ∷ Int (pos 2) ∷ Int (pos 3) ∷ []) ∷ []
+unfolding file
+file_raised = refl

@@ -13,11 +13,12 @@ use Rattle.sqlite_schema.specs.declared.schema.Table.{Table}
 use Rattle.sqlite_trees.specs.Tree.{IsAscending}
 use Rattle.sqlite_value.specs.Keys.{plain}
 use Rattle.fax_core.specs.Queue.{Entry}
+use Rattle.fax_core.specs.declared.times.Times.{Times}
 use Rattle.fax_core.specs.declared.grants.Grant.{Grant}
 use Rattle.fax_job.specs.declared.job.JobFields.{JobFields}
-use Rattle.fax_tables.specs.Row.{job_row, job_columns, grant_row, hold_columns, down_columns, entry_columns}
+use Rattle.fax_tables.specs.Row.{job_row, job_columns, grant_row, hold_columns, down_columns, entry_columns, times_row}
 use Rattle.fax_schema.specs.Schema as schema
-use Rattle.fax_schema.specs.Schema.{our_tables, jobs_tree, grants_tree, holds_tree, down_tree, replies_tree}
+use Rattle.fax_schema.specs.Schema.{our_tables, jobs_tree, grants_tree, holds_tree, down_tree, replies_tree, times_tree}
 use Rattle.fax_schema.specs.ByRowid.{IsByRowid}
 use Rattle.fax_tables.proofs.FreeLemmas.{chosen_free, unique_still}
 use Rattle.fax_tables.proofs.RefusalLemmas.{MayStand}
@@ -48,6 +49,10 @@ module _ (db : Database) (ours : db.schema ≡ our_tables) (sound : IsDatabase d
   -- a grant may stand there where its number isn't taken
   pub grant_may : (g : Grant) → is_taken (db.trees grants_tree) (grant_row g) ≡ false → MayStand our_tables db.trees schema.grants (grant_row g)
   grant_may g free = free_may schema.grants (pos g.number) _ (inr (inl refl)) refl refl refl free tt
+
+  -- so may the times of a job that has none
+  pub times_may : (x : Times) → is_taken (db.trees times_tree) (times_row x) ≡ false → MayStand our_tables db.trees schema.times (times_row x)
+  times_may x free = free_may schema.times (pos x.job) _ (inr (inr (inr (inr (inr (inr (inr (inl refl)))))))) refl refl refl free tt
 
   -- a hold's modem, job and grant are each held once
   pub hold_may : (g : Grant) → IsByRowid (db.trees holds_tree)

@@ -23,13 +23,14 @@ use Rattle.fax_core.specs.Job.{Job, fields_of}
 use Rattle.fax_core.specs.Ledger.{Ledger, empty_ledger, IsLawfulEntry}
 use Rattle.fax_core.specs.Queue.{Queue, Entry, empty_queue, open_grants}
 use Rattle.fax_core.specs.State.{calls_to}
+use Rattle.fax_core.specs.declared.times.Times.{Times}
 use Rattle.fax_core.specs.declared.grants.Grant.{Grant}
 use Rattle.fax_value.specs.Name.{IsName}
-use Rattle.fax_schema.specs.Schema.{core_tables, our_tables, calls_tree, down_tree, floors_tree, grants_tree, holds_tree, jobs_tree, meta_tree, replies_tree}
+use Rattle.fax_schema.specs.Schema.{core_tables, our_tables, calls_tree, down_tree, floors_tree, grants_tree, holds_tree, jobs_tree, meta_tree, replies_tree, times_tree}
 use Rattle.fax_tables.specs.Job.{IsLawfulJob}
 use Rattle.fax_tables.specs.Meta.{meta_of, with_meta}
-use Rattle.fax_tables.specs.Row.{job_row, grant_row, hold_columns, down_columns, entry_columns, call_columns, meta_row}
-use Rattle.fax_tables.specs.Tables.{TablesMean, AreCalls, AreCounted, AreLawfulFloors, HaveJobs, IsLawfulGrant, IsLawfulMeta}
+use Rattle.fax_tables.specs.Row.{job_row, grant_row, hold_columns, down_columns, entry_columns, call_columns, meta_row, times_row}
+use Rattle.fax_tables.specs.Tables.{TablesMean, AreCalls, AreCounted, AreLawfulFloors, AreLawfulTimes, HaveJobs, IsLawfulGrant, IsLawfulMeta}
 use Rattle.fax_schema.specs.ByRowid.{IsByRowid}
 use Rattle.fax_schema.proofs.AppendLemmas.{appended}
 use Rattle.fax_schema.proofs.RowsLemmas.{at_tree}
@@ -88,6 +89,7 @@ pub data Name : Type 0 where
   replies : Name
   meta : Name
   floors : Name
+  times : Name
   calls : Name
 
 abbrev pub tree_of : Name → ℕ
@@ -98,6 +100,7 @@ tree_of down = down_tree
 tree_of replies = replies_tree
 tree_of meta = meta_tree
 tree_of floors = floors_tree
+tree_of times = times_tree
 tree_of calls = calls_tree
 
 -- What they mean. The open grants and the counts of calls stand for themselves, for the time between two statements.
@@ -122,6 +125,7 @@ Says down c rows = AreColumns down_columns IsName rows c.queue.down
 Says replies c rows = AreColumns entry_columns IsLawfulEntry rows c.kept.replies
 Says meta c rows = (rows ≡ meta_row c.queue ∷ []) × IsLawfulMeta (with_meta (meta_of c.queue) empty_queue)
 Says floors c rows = AreFloors c.kept.floor rows
+Says times c rows = AreRecords times_row AreLawfulTimes rows c.queue.times
 Says calls c rows = AreCalls c.count rows
 
 pub record PartsOf (db : Database) (c : Content) : Type 0 where
@@ -151,6 +155,7 @@ parts_of db m k means = record { schema = means.schema; sound = means.sound; say
     says replies = record { is = means.replies; ordered = means.ordered.replies; lawful = means.lawful.replies }
     says meta = (means.meta, record { clock = means.lawful.meta.clock; next_job = means.lawful.meta.next_job; next_grant = means.lawful.meta.next_grant })
     says floors = record { is = means.floors; ordered = means.ordered.floors; lawful = means.lawful.floors }
+    says times = record { is = means.times; ordered = means.ordered.times; lawful = means.lawful.times }
     says calls = record { is = means.calls; ordered = means.ordered.calls }
 
 -- and what is said of the rows of each is what the tables mean, where each open grant has its job
@@ -164,6 +169,7 @@ means_of db m k held parts = record {
   down = (parts.says down).is;
   replies = (parts.says replies).is;
   floors = (parts.says floors).is;
+  times = (parts.says times).is;
   meta = (parts.says meta).0;
   held = held;
   calls = (parts.says calls).is;
@@ -174,6 +180,7 @@ means_of db m k held parts = record {
     down = (parts.says down).ordered;
     replies = (parts.says replies).ordered;
     floors = (parts.says floors).ordered;
+    times = (parts.says times).ordered;
     calls = (parts.says calls).ordered;
   };
   lawful = record {
@@ -183,6 +190,7 @@ means_of db m k held parts = record {
     replies = (parts.says replies).lawful;
     meta = record { clock = (parts.says meta).1.clock; next_job = (parts.says meta).1.next_job; next_grant = (parts.says meta).1.next_grant };
     floors = (parts.says floors).lawful;
+    times = (parts.says times).lawful;
   };
 }
 
@@ -236,6 +244,10 @@ module _ (old new : State) (m : Queue) (held : List Grant) (count : List ℕ →
   -- floors changed alone
   pub floors_changed : KeepsOthers our_tables floors_tree old new → (floor : List ℕ → ℕ) → AreFloors floor (new.now.trees floors_tree) → Parts new.now m held count (record k { floor = floor })
   floors_changed keeps floor now = changed floors_tree _ keeps (elim [ floors ↦ inl now | _ ↦ inr ((λ e. cc), λ rows says. says) ])
+
+  -- times changed alone
+  pub times_changed : KeepsOthers our_tables times_tree old new → (xs : List Times) → AreRecords times_row AreLawfulTimes (new.now.trees times_tree) xs → Parts new.now (record m { times = xs }) held count k
+  times_changed keeps xs now = changed times_tree _ keeps (elim [ times ↦ inl now | _ ↦ inr ((λ e. cc), λ rows says. says) ])
 
   -- meta changed alone
   pub meta_changed : KeepsOthers our_tables meta_tree old new → (clock next_job next_grant : ℕ) → new.now.trees meta_tree ≡ meta_row (record m { clock = clock; next_job = next_job; next_grant = next_grant }) ∷ []

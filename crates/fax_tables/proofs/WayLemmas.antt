@@ -9,13 +9,13 @@ use Rattle.sqlite_rules.proofs.ListLemmas.{all_has}
 use Rattle.sqlite_schema.specs.declared.schema.Schema.{Schema}
 use Rattle.sqlite_schema.specs.declared.schema.Table.{Table}
 use Rattle.sqlite_trees.specs.Tree.{Trees}
-use Rattle.fax_schema.specs.Schema.{AreOurs, has_floors, first_list, second_list, core_list, no_tables, our_tables, core_tables, bare_tables, bare_with_calls, vacuumed_tables, first_tables, first_older, first_core, first_older_core, first_bare, first_bare_calls, first_vacuumed, first_older_vacuumed}
+use Rattle.fax_schema.specs.Schema.{AreOurs, has_floors, has_times, added_list, first_list, second_list, third_list, both_list, core_list, no_tables, our_tables, core_tables, bare_tables, bare_with_calls, vacuumed_tables, second_tables, second_core, second_bare, second_bare_calls, second_vacuumed, first_tables, first_older, first_core, first_older_core, first_bare, first_bare_calls, first_vacuumed, first_older_vacuumed}
 use Rattle.fax_schema.specs.Way.{changes}
 use Rattle.fax_schema.specs.declared.way.Step.{Step}
-use Rattle.fax_schema.specs.declared.way.Step.TheVariants.{DropIndexes, DropCalls, CreateFirst, CreateSecond, CreateIndexes}
+use Rattle.fax_schema.specs.declared.way.Step.TheVariants.{DropIndexes, DropJobIndexes, DropCalls, CreateFirst, CreateSecond, CreateThird, CreateIndexes}
 use Rattle.fax_schema.proofs.RowsLemmas.{all_given, all_mapped, are_in, at_tree, is_in, not_ours}
-use Rattle.fax_tables.specs.Tables.{ComesTo, Renews, second_in}
-use Rattle.fax_tables.proofs.CreateLemmas.{renews_core, renews_first, renews_raised, renews_then}
+use Rattle.fax_tables.specs.Tables.{ComesTo, Renews, added_in}
+use Rattle.fax_tables.proofs.CreateLemmas.{renews_core, renews_first, renews_raised, renews_second, renews_then, renews_timed}
 
 -- ---- the rows of some tables
 
@@ -78,21 +78,34 @@ abbrev Keeps : Schema × Schema → Type 0
 Keeps way = AreOurs way.0 → AreOurs way.1 × ((db after : Database) → db.schema ≡ way.0 → after.schema ≡ way.1 → KeepsRows (way.1).tables (only_in (way.0).tables db.trees) after.trees → Renews db after)
 
 -- the tables of the first version
-first_kept : (a b : Schema) → has_floors a ≡ false → has_floors b ≡ false → are_in a.tables first_list ≡ true → are_in b.tables first_list ≡ true → AreOurs b → Keeps (a, b)
-first_kept a b none still was is ours before =
-    (ours, λ db after from to rows. renews_first db after a b none still from to (kept_in first_list a.tables b.tables db.trees after.trees was is rows))
+first_kept : (a b : Schema) → has_floors a ≡ false → has_times a ≡ false → has_floors b ≡ false → has_times b ≡ false → are_in a.tables first_list ≡ true → are_in b.tables first_list ≡ true → AreOurs b → Keeps (a, b)
+first_kept a b no_floors no_times still none was is ours before =
+    (ours, λ db after from to rows. renews_first db after a b no_floors no_times still none from to (kept_in first_list a.tables b.tables db.trees after.trees was is rows))
 
 -- those of the second
-core_kept : (a b : Schema) → has_floors a ≡ true → has_floors b ≡ true → are_in a.tables core_list ≡ true → are_in b.tables core_list ≡ true → AreOurs b → Keeps (a, b)
-core_kept a b there still was is ours before =
-    (ours, λ db after from to rows. renews_core db after a b there still from to (kept_in core_list a.tables b.tables db.trees after.trees was is rows))
+second_kept : (a b : Schema) → has_floors a ≡ true → has_times a ≡ false → has_floors b ≡ true → has_times b ≡ false → are_in a.tables both_list ≡ true → are_in b.tables both_list ≡ true → AreOurs b → Keeps (a, b)
+second_kept a b floors no_times still none was is ours before =
+    (ours, λ db after from to rows. renews_second db after a b floors no_times still none from to (kept_in both_list a.tables b.tables db.trees after.trees was is rows))
+
+-- those of the third
+core_kept : (a b : Schema) → has_floors a ≡ true → has_times a ≡ true → has_floors b ≡ true → has_times b ≡ true → are_in a.tables core_list ≡ true → are_in b.tables core_list ≡ true → AreOurs b → Keeps (a, b)
+core_kept a b floors times still_floors still_times was is ours before =
+    (ours, λ db after from to rows. renews_core db after a b floors times still_floors still_times from to (kept_in core_list a.tables b.tables db.trees after.trees was is rows))
 
 -- what the second has comes to those of the first
-raised : Keeps (first_bare, bare_tables)
+raised : Keeps (first_bare, second_bare)
 raised before = (
-  inr (inr (inl refl)),
+  inr (inr (inr (inr (inr (inr (inr (inl refl))))))),
   λ db after from to rows. renews_raised db after from to
-      (kept_in first_list first_list bare_tables.tables db.trees after.trees refl refl rows) (none_in second_list first_list bare_tables.tables db.trees after.trees refl refl rows),
+      (kept_in first_list first_list second_bare.tables db.trees after.trees refl refl rows) (none_in second_list first_list second_bare.tables db.trees after.trees refl refl rows).0,
+)
+
+-- and what the third has to those of the second
+timed : Keeps (second_bare, bare_tables)
+timed before = (
+  inr (inr (inl refl)),
+  λ db after from to rows. renews_timed db after from to
+      (kept_in both_list both_list bare_tables.tables db.trees after.trees refl refl rows) (none_in third_list both_list bare_tables.tables db.trees after.trees refl refl rows).0,
 )
 
 -- no table was there
@@ -100,35 +113,13 @@ made : Keeps (no_tables, first_bare)
 made ours = absurd (not_ours no_tables refl ours)
 
 keeps : (step : Step) (a b : Schema) → Has (changes step) (a, b) → Keeps (a, b)
-keeps DropIndexes a b = all_has Keeps (changes DropIndexes) (a, b) (
-  core_kept vacuumed_tables bare_with_calls refl refl refl refl (inr (inr (inr (inl refl)))),
-  (
-    first_kept first_vacuumed first_bare_calls refl refl refl refl (inr (inr (inr (inr (inr (inr (inr (inr (inr (inr (inl refl))))))))))),
-    (
-      first_kept first_older_vacuumed first_bare_calls refl refl refl refl (inr (inr (inr (inr (inr (inr (inr (inr (inr (inr (inl refl))))))))))),
-      (
-        first_kept first_core first_bare refl refl refl refl (inr (inr (inr (inr (inr (inr (inr (inr (inr (inl refl)))))))))),
-        (first_kept first_older_core first_bare refl refl refl refl (inr (inr (inr (inr (inr (inr (inr (inr (inr (inl refl)))))))))), tt),
-      ),
-    ),
-  ),
-)
-keeps DropCalls a b = all_has Keeps (changes DropCalls) (a, b) (
-  core_kept our_tables core_tables refl refl refl refl (inr (inl refl)),
-  (
-    core_kept bare_with_calls bare_tables refl refl refl refl (inr (inr (inl refl))),
-    (
-      first_kept first_tables first_core refl refl refl refl (inr (inr (inr (inr (inr (inr (inr (inl refl)))))))),
-      (
-        first_kept first_older first_older_core refl refl refl refl (inr (inr (inr (inr (inr (inr (inr (inr (inl refl))))))))),
-        (first_kept first_bare_calls first_bare refl refl refl refl (inr (inr (inr (inr (inr (inr (inr (inr (inr (inl refl)))))))))), tt),
-      ),
-    ),
-  ),
-)
+keeps DropIndexes a b = all_has Keeps (changes DropIndexes) (a, b) (core_kept vacuumed_tables bare_with_calls refl refl refl refl refl refl (inr (inr (inr (inl refl)))), tt)
+keeps DropJobIndexes a b = all_has Keeps (changes DropJobIndexes) (a, b) (second_kept second_vacuumed second_bare_calls refl refl refl refl refl refl (inr (inr (inr (inr (inr (inr (inr (inr (inl refl))))))))), (second_kept second_core second_bare refl refl refl refl refl refl (inr (inr (inr (inr (inr (inr (inr (inl refl)))))))), (first_kept first_vacuumed first_bare_calls refl refl refl refl refl refl (inr (inr (inr (inr (inr (inr (inr (inr (inr (inr (inr (inr (inr (inr (inr (inl refl)))))))))))))))), (first_kept first_older_vacuumed first_bare_calls refl refl refl refl refl refl (inr (inr (inr (inr (inr (inr (inr (inr (inr (inr (inr (inr (inr (inr (inr (inl refl)))))))))))))))), (first_kept first_core first_bare refl refl refl refl refl refl (inr (inr (inr (inr (inr (inr (inr (inr (inr (inr (inr (inr (inr (inr (inl refl))))))))))))))), (first_kept first_older_core first_bare refl refl refl refl refl refl (inr (inr (inr (inr (inr (inr (inr (inr (inr (inr (inr (inr (inr (inr (inl refl))))))))))))))), tt))))))
+keeps DropCalls a b = all_has Keeps (changes DropCalls) (a, b) (core_kept our_tables core_tables refl refl refl refl refl refl (inr (inl refl)), (core_kept bare_with_calls bare_tables refl refl refl refl refl refl (inr (inr (inl refl))), (second_kept second_tables second_core refl refl refl refl refl refl (inr (inr (inr (inr (inr (inr (inl refl))))))), (second_kept second_bare_calls second_bare refl refl refl refl refl refl (inr (inr (inr (inr (inr (inr (inr (inl refl)))))))), (first_kept first_tables first_core refl refl refl refl refl refl (inr (inr (inr (inr (inr (inr (inr (inr (inr (inr (inr (inr (inl refl))))))))))))), (first_kept first_older first_older_core refl refl refl refl refl refl (inr (inr (inr (inr (inr (inr (inr (inr (inr (inr (inr (inr (inr (inl refl)))))))))))))), (first_kept first_bare_calls first_bare refl refl refl refl refl refl (inr (inr (inr (inr (inr (inr (inr (inr (inr (inr (inr (inr (inr (inr (inl refl))))))))))))))), tt)))))))
 keeps CreateFirst a b = all_has Keeps (changes CreateFirst) (a, b) (made, tt)
 keeps CreateSecond a b = all_has Keeps (changes CreateSecond) (a, b) (raised, tt)
-keeps CreateIndexes a b = all_has Keeps (changes CreateIndexes) (a, b) (core_kept bare_tables core_tables refl refl refl refl (inr (inl refl)), tt)
+keeps CreateThird a b = all_has Keeps (changes CreateThird) (a, b) (timed, tt)
+keeps CreateIndexes a b = all_has Keeps (changes CreateIndexes) (a, b) (core_kept bare_tables core_tables refl refl refl refl refl refl (inr (inl refl)), tt)
 
 -- so it comes to where it leads
 pub comes : (step : Step) (to : Schema) (db after : Database) → Has (changes step) (db.schema, to) → after.schema ≡ to → KeepsRows after.schema.tables (only_in db.schema.tables db.trees) after.trees → ComesTo to db after
@@ -144,7 +135,7 @@ pub stays : (db : Database) → ComesTo db.schema db db
 stays db = record {
   schema_is = refl;
   ours = λ ours. ours;
-  renews = λ ours. record { rows = all_given (λ t. db.trees t.tree ≡ db.trees t.tree) first_list (λ t. refl); second = all_given (λ t. second_in db t.tree ≡ second_in db t.tree) second_list (λ t. refl) };
+  renews = λ ours. record { rows = all_given (λ t. db.trees t.tree ≡ db.trees t.tree) first_list (λ t. refl); added = all_given (λ t. added_in db t.tree ≡ added_in db t.tree) added_list (λ t. refl) };
   empty = λ none. none;
 }
 

@@ -4,6 +4,7 @@ use Rattle.sqlite.specs.Order.{Row, column}
 use Rattle.sqlite.specs.declared.types.Value.{Value}
 use Rattle.sqlite.specs.declared.types.Value.TheVariants.{Null, Int, Text, Blob}
 use Rattle.fax_core.specs.Queue.{Queue, Entry}
+use Rattle.fax_core.specs.declared.times.Times.{Times}
 use Rattle.fax_core.specs.declared.grants.Grant.{Grant}
 use Rattle.fax_job.specs.Spelling.{printed}
 use Rattle.fax_job.specs.declared.job.JobFields.{JobFields}
@@ -90,10 +91,18 @@ call_columns dial open_calls = Text dial ∷ number open_calls ∷ []
 abbrev pub floor_columns : List ℕ → ℕ → Row
 floor_columns client upto = Text client ∷ number upto ∷ []
 
--- of the second version
-abbrev pub meta_row : Queue → Row
-meta_row m = number 1 ∷ Null ∷ number m.clock ∷ number m.next_job ∷ number m.next_grant ∷ number 2 ∷ []
+-- when a job came in, and when it ended
+abbrev pub times_row : Times → Row
+times_row x = number x.job ∷ Null ∷ number x.submitted ∷ number x.ended ∷ []
 
--- a row of meta, as the second version has it
+-- the row of a query for them
+abbrev pub times_shown : Times → Row
+times_shown x = number x.job ∷ number x.submitted ∷ number x.ended ∷ []
+
+-- of the third version
+abbrev pub meta_row : Queue → Row
+meta_row m = number 1 ∷ Null ∷ number m.clock ∷ number m.next_job ∷ number m.next_grant ∷ number 3 ∷ []
+
+-- a row of meta, as the third version has it
 abbrev pub raised : Row → Row
-raised row = column row 0 ∷ Null ∷ column row 2 ∷ column row 3 ∷ column row 4 ∷ number 2 ∷ []
+raised row = column row 0 ∷ Null ∷ column row 2 ∷ column row 3 ∷ column row 4 ∷ number 3 ∷ []

@@ -19,12 +19,15 @@ ghost use Rattle.fax_job.specs.declared.job.Wish.{Wish as JobWish};
 ghost use Rattle.fax_tables.specs.Fault.{OrUnavailable};
 ghost use Rattle.fax_tables.specs.Job.{IsText, IsFormed, IsLawfulJob, brief, brief_shown, job_shown};
 ghost use Rattle.fax_tables.specs.Row.{HasValue, HasValues, HasNumber, phase_number, wish_number};
+ghost use Rattle.fax_tables.specs.Tables.{is_over_phase};
+ghost use Rattle.sqlite_value.specs.Value.{owned};
 
 use crate::fault::StoreFault;
 use crate::row::{moment_at, name_at, number_at, small_at, text_at};
 use fax_job::{Dial, Job, JobFields, JobTag, Lines, Moment, Phase, Status, Wish, write_lines};
 use fax_lines::read_lines;
 use sqlite::Row;
+use sqlite::types::ValueRef;
 use std::alloc::Global;
 
 /// The number that stands for a phase.
@@ -37,6 +40,16 @@ pub fn phase_number(phase: Phase) -> u32
         Phase::Granted => 2,
         Phase::Done => 3,
         Phase::Failed => 4,
+    }
+}
+
+/// Whether a job in this phase is over, whatever else the value may be.
+pub fn is_over_phase(phase: ValueRef<'_>) -> bool
+    ensures { result ≡ is_over_phase (owned phase.entry) }
+{
+    match phase {
+        ValueRef::Int(number) => number == 3 || number == 4,
+        _ => false,
     }
 }
 

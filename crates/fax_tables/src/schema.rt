@@ -1,4 +1,4 @@
-//! The eight tables and their indexes.
+//! The nine tables and their indexes.
 
 ghost use Rattle.std.specs.Prelude.{[], ◌∷◌};
 ghost use Rattle.sqlite_schema.specs.declared.schema.Schema.{Schema};
@@ -12,7 +12,7 @@ use fax_schema::statements::{CREATE_CALLS, INSERT_META};
 use fax_schema::{Step, UPGRADES, Way};
 use sqlite::{Alter, Connection, Error};
 
-/// Makes the eight tables and their indexes in a database without any, with no rows but the one of meta. Inside a
+/// Makes the nine tables and their indexes in a database without any, with no rows but the one of meta. Inside a
 /// transaction nothing is committed.
 pub fn create_tables<S: Alter>(conn: &mut Connection<S>) -> Result<(), Error>
     ensures { Alters S.Store (HasEmptyTables no_tables) (HasEmptyTables no_tables)

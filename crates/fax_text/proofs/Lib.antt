@@ -7,8 +7,10 @@ pub mod ReplayWords
 mod RowsCivil
 mod RowsLines
 mod RowsListing
+mod RowsTimes
 pub mod RowsSendfax
 mod RowsWords
 pub mod SendfaxLemmas
 pub mod TimeLemmas
+pub mod TimesLemmas
 pub mod WordsLemmas

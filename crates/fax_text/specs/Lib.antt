@@ -13,4 +13,5 @@ pub mod Sendfax
 pub mod Server
 pub mod Status
 pub mod Time
+pub mod Times
 pub mod Words

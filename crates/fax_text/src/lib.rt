@@ -14,6 +14,7 @@ mod sendfax;
 mod server;
 mod status;
 mod time;
+mod times;
 mod words;
 
 pub use check_words::CheckPlan;
@@ -25,4 +26,5 @@ pub use modems::{HeldGrant, Standing, push_modem};
 pub use sendfax::{SendFault, SendPlan, request};
 pub use server::{OfficeFiles, ServePlan};
 pub use status::Status;
+pub use times::push_times;
 pub use words::{Plan, WordsFault, read_words};

@@ -36,6 +36,7 @@ use Rattle.fax_core.proofs.KeepLemmas.{looked_up, numbered_job, same_job}
 use Rattle.fax_core.proofs.PageLemmas.{Reported, on_grant_is}
 use Rattle.fax_core.proofs.PlaceLemmas.{mapped, placed_here, placed_other, stays}
 use Rattle.fax_core.proofs.StepLemmas.{Best_to, GivenTo, None_to, aged_sound, given_is, taken_same}
+use Rattle.fax_core.proofs.TimesLemmas.{by_stamp}
 
 -- ---- a job
 
@@ -215,6 +216,6 @@ unaged_there t m x j is =
 
 -- so it is with each step
 pub step_dials : (s : Settings) (m n : Queue) (t : ℕ) (request : Ask) (r : Reply) → Sound m → step s m t request ≡ Taken n r → KeepsDials m n
-step_dials s m n t request r h e x j is =
-    let on = act_dials s (aged t m) n t request r (aged_sound t m h) e x (aged_job t j) (aged_there t m x j is) in
-    (on.0, on.1, on.2 ∙ aged_dial t j)
+step_dials s m n t request r h e = by_stamp (KeepsDials m) t (aged t m) (act s (aged t m) t request) n r e (λ k taken x j is.
+    let on = act_dials s (aged t m) k t request r (aged_sound t m h) taken x (aged_job t j) (aged_there t m x j is) in
+    (on.0, on.1, on.2 ∙ aged_dial t j))

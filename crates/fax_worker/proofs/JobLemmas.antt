@@ -46,6 +46,7 @@ use Rattle.fax_core.proofs.NumberLemmas.{step_numbers}
 use Rattle.fax_core.proofs.PageLemmas.{Reported, on_grant_is}
 use Rattle.fax_core.proofs.PlaceLemmas.{absent, either, mapped, placed}
 use Rattle.fax_core.proofs.StepLemmas.{Best_to, GivenTo, None_to, aged_sound, given_is, taken_same}
+use Rattle.fax_core.proofs.TimesLemmas.{by_stamp, stamped_taken}
 use Rattle.fax_run.specs.Counts.{came_in, brings, no_counters}
 
 -- ---- a job that is done has no page left
@@ -365,7 +366,8 @@ act_made s m n t (GiveUp u) r h e = same_made m n (GiveUp u) r (λ a p e. cc e) 
 
 -- the same of a step, which ages the jobs first
 pub step_made : (s : Settings) (m n : Queue) (t : ℕ) (request : Ask) (r : Reply) → Sound m → step s m t request ≡ Taken n r → (x : ℕ) (y : Job) → IsJob n x y → Made m request r x y
-step_made s m n t request r h e x y there = by (act_made s (aged t m) n t request r (aged_sound t m h) e x y there)
+step_made s m n t request r h e = by_stamp (λ q. (x : ℕ) (y : Job) → IsJob q x y → Made m request r x y) t (aged t m) (act s (aged t m) t request) n r e (λ k taken x y there.
+    by x y (act_made s (aged t m) k t request r (aged_sound t m h) taken x y there))
   where
     -- a job of the aged queue was there before
     unaged : (x : ℕ) (j : Job) → IsJob (aged t m) x j → (i : Job) × IsJob m x i × (aged_job t i ≡ j)
@@ -375,14 +377,14 @@ step_made s m n t request r h e x y there = by (act_made s (aged t m) n t reques
     none_before x None e none = e
     none_before x (Some j) e none = absurd (let there = looked_up m (aged_job t) (aged_number t) x ∙ ap (option_map (aged_job t)) e in cc (there, none))
 
-    by : Made (aged t m) request r x y → Made m request r x y
-    by (Was j is sent whole none) =
+    by : (x : ℕ) (y : Job) → Made (aged t m) request r x y → Made m request r x y
+    by x y (Was j is sent whole none) =
         let old = unaged x j is in
         Was old.0 old.1 (sent ∙ ap (λ (z : Job). z.sent) (sym old.2) ∙ aged_sent t old.0) (λ h. whole (subst IsWhole old.2 (aged_whole t old.0 h))) none
-    by (Paged a p g j asked open' of is sent whole) =
+    by x y (Paged a p g j asked open' of is sent whole) =
         let old = unaged x j is in
         Paged a p g old.0 asked open' of old.1 (sent ∙ ap (λ (ps : List ℕ). ps ++ p ∷ []) (ap (λ (z : Job). z.sent) (sym old.2) ∙ aged_sent t old.0)) whole
-    by (Is_new none pages whole) = Is_new (none_before x (job_numbered x m) refl none) pages whole
+    by x y (Is_new none pages whole) = Is_new (none_before x (job_numbered x m) refl none) pages whole
 
 -- ---- jobs that come in
 
@@ -439,14 +441,30 @@ came_there s m n t i (Brought number state) x sound e on =
     (it.job, subst (λ (k : ℕ). IsJob n k it.job) (eqb-true number x on) it.there)
 came_there s m n t i other x sound e on = absurd cc
 
+-- what a step takes, the aged queue takes
+taken_act : (s : Settings) (m n : Queue) (t : ℕ) (request : Ask) (r : Reply) → step s m t request ≡ Taken n r → (k : Queue) × (act s (aged t m) t request ≡ Taken k r)
+taken_act s m n t request r e = let taken = stamped_taken t (aged t m) (act s (aged t m) t request) n r e in (taken.0, taken.1)
+
 pub step_brings : (s : Settings) (m n : Queue) (t : ℕ) (request : Ask) (r : Reply) (x : ℕ) → Sound m → step s m t request ≡ Taken n r → brings r x ≡ true → (j : Job) × IsJob n x j
-step_brings s m n t (Submission o) r x h e on = absurd (not_both (brings r x) (submitted_brings (aged t m) n (s.rule o.dial) (submit o (s.rule o.dial) m.next_job s.max_jobs t) r e x) on)
+step_brings s m n t (Submission o) r x h e on =
+    let taken = taken_act s m n t (Submission o) r e in
+    absurd (not_both (brings r x) (submitted_brings (aged t m) taken.0 (s.rule o.dial) (submit o (s.rule o.dial) m.next_job s.max_jobs t) r taken.1 x) on)
 step_brings s m n t (Bring i) r x h e on = came_there s m n t i r x h e on
-step_brings s m n t (OnJob b a) r x h e on = absurd (not_both (brings r x) (on_job_brings s (aged t m) n t a (job_numbered b (aged t m)) r e x) on)
-step_brings s m n t (Mark modem down) r x h e on = absurd (not_both (brings r x) (marked_brings (aged t m) n modem down (has_modem s modem) r e x) on)
-step_brings s m n t (Next modem) r x h e on = absurd (not_both (brings r x) (given_brings s (aged t m) n t modem r (given_is s (aged t m) t modem n r (aged_sound t m h) e) x) on)
-step_brings s m n t (OnGrant a z) r x h e on = absurd (not_both (brings r x) (on_grant_brings s (aged t m) n t z (grant_numbered a (aged t m)) r e x) on)
-step_brings s m n t (GiveUp u) r x h e on = absurd (not_both (brings r x) (ap (λ (q : Reply). brings q x) (sym (taken_same (aged t m) n _ r e).1)) on)
+step_brings s m n t (OnJob b a) r x h e on =
+    let taken = taken_act s m n t (OnJob b a) r e in
+    absurd (not_both (brings r x) (on_job_brings s (aged t m) taken.0 t a (job_numbered b (aged t m)) r taken.1 x) on)
+step_brings s m n t (Mark modem down) r x h e on =
+    let taken = taken_act s m n t (Mark modem down) r e in
+    absurd (not_both (brings r x) (marked_brings (aged t m) taken.0 modem down (has_modem s modem) r taken.1 x) on)
+step_brings s m n t (Next modem) r x h e on =
+    let taken = taken_act s m n t (Next modem) r e in
+    absurd (not_both (brings r x) (given_brings s (aged t m) taken.0 t modem r (given_is s (aged t m) t modem taken.0 r (aged_sound t m h) taken.1) x) on)
+step_brings s m n t (OnGrant a z) r x h e on =
+    let taken = taken_act s m n t (OnGrant a z) r e in
+    absurd (not_both (brings r x) (on_grant_brings s (aged t m) taken.0 t z (grant_numbered a (aged t m)) r taken.1 x) on)
+step_brings s m n t (GiveUp u) r x h e on =
+    let taken = taken_act s m n t (GiveUp u) r e in
+    absurd (not_both (brings r x) (ap (λ (q : Reply). brings q x) (sym (taken_same (aged t m) taken.0 _ r taken.1).1)) on)
 
 -- a job has a number below the next
 pub below_next : (m : Queue) (x : ℕ) (j : Job) → Sound m → IsJob m x j → x < m.next_job

@@ -20,7 +20,7 @@ use Rattle.fax_core.specs.declared.ask.JobAsk.{JobAsk}
 use Rattle.fax_core.specs.Decisions.{JobAndGrant, after_call, call, ended, grant_reported, granted, is_connected, is_done, is_empty, job_asked, outcome, page, page_of, submit}
 use Rattle.fax_core.specs.Import.{bring}
 use Rattle.fax_core.specs.Job.{Job}
-use Rattle.fax_core.specs.Machine.{brought_in, changed, handed, on_both, on_grant, on_job, report_reply, step, submitted, with_both, with_job, with_mark, with_new_grant, with_new_job, dial_of}
+use Rattle.fax_core.specs.Machine.{act, brought_in, changed, handed, on_both, on_grant, on_job, report_reply, given_to, stamped, step, submitted, with_both, with_job, with_mark, with_new_grant, with_new_job, dial_of}
 use Rattle.fax_core.specs.Machine as machine
 use Rattle.fax_core.specs.Queue.{Queue, grant_numbered, job_numbered}
 use Rattle.fax_core.specs.Reply.{Given, Handed, Marked, NoKeys, Reply, Taken, Refused}
@@ -31,6 +31,8 @@ use Rattle.fax_core.proofs.KeepLemmas.{Grants, found_new, numbered_grant, number
 use Rattle.fax_core.proofs.PageLemmas.{Reported, on_grant_is, tail_is}
 use Rattle.fax_core.proofs.PlaceLemmas.{either, placed, placed_here, placed_other, stays}
 use Rattle.fax_core.proofs.StepLemmas.{Best_to, GivenTo, None_to, aged_sound, given_grants, given_is, taken_same}
+use Rattle.fax_core.specs.Stamp.{stamp}
+use Rattle.fax_core.proofs.TimesLemmas.{by_stamp}
 use Rattle.fax_worker.proofs.DialLemmas.{aged_dial, aged_there, report_dial}
 use Rattle.fax_worker.specs.Laws.{Agrees}
 use Rattle.fax_worker.specs.Trace.{CallsComeFirst}
@@ -127,17 +129,23 @@ other_stays s m n t b x a g it other is =
     let its : it.both.grant.number ≢ a = λ q. other (sym (numbered_grant m b it.grant it.is) ∙ sym (reported_number s m n t b x it) ∙ q) in
     subst (λ (q : Queue). grant_numbered a q ≡ Some g) it.left (placed_other (λ (z : Grant). z.number) a it.both.grant g m.grants is its)
 
--- a step that isn't a report on a grant leaves it
+-- a request that isn't a report on a grant leaves it
+acted_stays : (s : Settings) (m n : Queue) (t : ℕ) (ask : Ask) (r : Reply) (a : ℕ) (g : Grant) → Sound m → act s (aged t m) t ask ≡ Taken n r
+    → ((x : Report) → ask ≢ OnGrant a x) → grant_numbered a m ≡ Some g → grant_numbered a n ≡ Some g
+acted_stays s m n t (Submission o) r a g h e other is = found_same m n a g (submission_same (aged t m) n (s.rule o.dial) (submit o (s.rule o.dial) m.next_job s.max_jobs t) r e) is
+acted_stays s m n t (Bring i) r a g h e other is = found_same m n a g (import_same s (aged t m) n t (s.rule i.order.dial) (bring i (s.rule i.order.dial) m.next_job s.max_jobs t) r e) is
+acted_stays s m n t (OnJob b ask) r a g h e other is = found_same m n a g (on_job_same s (aged t m) n t ask (job_numbered b (aged t m)) r e) is
+acted_stays s m n t (Mark modem down) r a g h e other is = found_same m n a g (marked_same (aged t m) n modem down (has_modem s modem) r e) is
+acted_stays s m n t (Next modem) r a g h e other is = given_stays s (aged t m) n t modem r a g (given_is s (aged t m) t modem n r (aged_sound t m h) e) is
+acted_stays s m n t (OnGrant b x) r a g h e other is =
+    other_stays s (aged t m) n t b x a g (on_grant_is s (aged t m) t b x (grant_numbered b (aged t m)) n r refl e) (λ q. other x (ap (λ (i : ℕ). OnGrant i x) q)) is
+acted_stays s m n t (GiveUp upto) r a g h e other is = found_same m n a g (ap (λ (q : Queue). q.grants) (sym (taken_same (aged t m) n _ r e).0)) is
+
+-- so does its step, which sets the times of the jobs
 pub grant_stays : (s : Settings) (m n : Queue) (t : ℕ) (ask : Ask) (r : Reply) (a : ℕ) (g : Grant) → Sound m → step s m t ask ≡ Taken n r
     → ((x : Report) → ask ≢ OnGrant a x) → grant_numbered a m ≡ Some g → grant_numbered a n ≡ Some g
-grant_stays s m n t (Submission o) r a g h e other is = found_same m n a g (submission_same (aged t m) n (s.rule o.dial) (submit o (s.rule o.dial) m.next_job s.max_jobs t) r e) is
-grant_stays s m n t (Bring i) r a g h e other is = found_same m n a g (import_same s (aged t m) n t (s.rule i.order.dial) (bring i (s.rule i.order.dial) m.next_job s.max_jobs t) r e) is
-grant_stays s m n t (OnJob b ask) r a g h e other is = found_same m n a g (on_job_same s (aged t m) n t ask (job_numbered b (aged t m)) r e) is
-grant_stays s m n t (Mark modem down) r a g h e other is = found_same m n a g (marked_same (aged t m) n modem down (has_modem s modem) r e) is
-grant_stays s m n t (Next modem) r a g h e other is = given_stays s (aged t m) n t modem r a g (given_is s (aged t m) t modem n r (aged_sound t m h) e) is
-grant_stays s m n t (OnGrant b x) r a g h e other is =
-    other_stays s (aged t m) n t b x a g (on_grant_is s (aged t m) t b x (grant_numbered b (aged t m)) n r refl e) (λ q. other x (ap (λ (i : ℕ). OnGrant i x) q)) is
-grant_stays s m n t (GiveUp upto) r a g h e other is = found_same m n a g (ap (λ (q : Queue). q.grants) (sym (taken_same (aged t m) n _ r e).0)) is
+grant_stays s m n t ask r a g h e other is =
+    by_stamp (λ q. grant_numbered a q ≡ Some g) t (aged t m) (act s (aged t m) t ask) n r e (λ k taken. acted_stays s m k t ask r a g h taken other is)
 
 -- ---- calls come first
 
@@ -186,15 +194,19 @@ calls_reported s m n t b x it h = subst CallsComeFirst it.left (λ a g is.
       | inr c ↦ subst HasCall (sym c.1) (h a p.before p.was)
     ])
 
--- each step keeps it so
+-- each request keeps it so
+acted_calls : (s : Settings) (m n : Queue) (t : ℕ) (ask : Ask) (r : Reply) → Sound m → act s (aged t m) t ask ≡ Taken n r → CallsComeFirst m → CallsComeFirst n
+acted_calls s m n t (Submission o) r h e = calls_same m n (submission_same (aged t m) n (s.rule o.dial) (submit o (s.rule o.dial) m.next_job s.max_jobs t) r e)
+acted_calls s m n t (Bring i) r h e = calls_same m n (import_same s (aged t m) n t (s.rule i.order.dial) (bring i (s.rule i.order.dial) m.next_job s.max_jobs t) r e)
+acted_calls s m n t (OnJob b ask) r h e = calls_same m n (on_job_same s (aged t m) n t ask (job_numbered b (aged t m)) r e)
+acted_calls s m n t (Mark modem down) r h e = calls_same m n (marked_same (aged t m) n modem down (has_modem s modem) r e)
+acted_calls s m n t (Next modem) r h e = calls_given s (aged t m) n t modem r (given_is s (aged t m) t modem n r (aged_sound t m h) e)
+acted_calls s m n t (OnGrant b x) r h e = calls_reported s (aged t m) n t b x (on_grant_is s (aged t m) t b x (grant_numbered b (aged t m)) n r refl e)
+acted_calls s m n t (GiveUp upto) r h e = calls_same m n (ap (λ (q : Queue). q.grants) (sym (taken_same (aged t m) n _ r e).0))
+
+-- so does its step
 pub calls_first : (s : Settings) (m n : Queue) (t : ℕ) (ask : Ask) (r : Reply) → Sound m → step s m t ask ≡ Taken n r → CallsComeFirst m → CallsComeFirst n
-calls_first s m n t (Submission o) r h e = calls_same m n (submission_same (aged t m) n (s.rule o.dial) (submit o (s.rule o.dial) m.next_job s.max_jobs t) r e)
-calls_first s m n t (Bring i) r h e = calls_same m n (import_same s (aged t m) n t (s.rule i.order.dial) (bring i (s.rule i.order.dial) m.next_job s.max_jobs t) r e)
-calls_first s m n t (OnJob b ask) r h e = calls_same m n (on_job_same s (aged t m) n t ask (job_numbered b (aged t m)) r e)
-calls_first s m n t (Mark modem down) r h e = calls_same m n (marked_same (aged t m) n modem down (has_modem s modem) r e)
-calls_first s m n t (Next modem) r h e = calls_given s (aged t m) n t modem r (given_is s (aged t m) t modem n r (aged_sound t m h) e)
-calls_first s m n t (OnGrant b x) r h e = calls_reported s (aged t m) n t b x (on_grant_is s (aged t m) t b x (grant_numbered b (aged t m)) n r refl e)
-calls_first s m n t (GiveUp upto) r h e = calls_same m n (ap (λ (q : Queue). q.grants) (sym (taken_same (aged t m) n _ r e).0))
+calls_first s m n t ask r h e before = by_stamp CallsComeFirst t (aged t m) (act s (aged t m) t ask) n r e (λ k taken. acted_calls s m k t ask r h taken before)
 
 -- ---- a grant that is given
 
@@ -220,10 +232,27 @@ given_agrees s m n t modem h sound (Best_to j b none same told) =
     } in
     subst (λ (x : Handed). Agrees n modem (held_of x None 0)) is all
 
+-- the times of jobs don't touch it
+agrees_stamped : (t : ℕ) (m n : Queue) (modem : List ℕ) (h : Held) → Agrees n modem h → Agrees (stamp t m n) modem h
+agrees_stamped t m n modem h a = record {
+  grant = a.grant;
+  open_grant = a.open_grant;
+  of_modem = a.of_modem;
+  of_job = a.of_job;
+  first_page = a.first_page;
+  last_page = a.last_page;
+  call = a.call;
+  pages = a.pages;
+  job = a.job;
+  there = a.there;
+  dial = a.dial;
+}
+
 pub step_given : (s : Settings) (m n : Queue) (t : ℕ) (modem : List ℕ) (h : Handed) → Sound m → step s m t (Next modem) ≡ Taken n (Given h) → Agrees n modem (held_of h None 0)
 step_given s m n t modem h sound e =
     let aged_one : Sound (aged t m) = aged_sound t m sound in
-    given_agrees s (aged t m) n t modem h aged_one (given_is s (aged t m) t modem n (Given h) aged_one e)
+    by_stamp (λ q. Agrees q modem (held_of h None 0)) t (aged t m) (given_to s (aged t m) t modem) n (Given h) e (λ k taken.
+    agrees_stamped t (aged t m) k modem (held_of h None 0) (given_agrees s (aged t m) k t modem h aged_one (given_is s (aged t m) t modem k (Given h) aged_one taken)))
 
 -- ---- reports that are accepted
 
@@ -357,7 +386,8 @@ accepts s m t modem h x sound a fits =
     let j = held.0 in
     let made = decides x s.delay t m modem h j a held.2 fits in
     let b = made.0 in
-    let after = with_both b (aged t m) in
+    let left = with_both b (aged t m) in
+    let after = stamp t (aged t m) left in
     let becomes = grant_after x s.delay t j g b made.1 in
     let number : b.grant.number ≡ h.grant = ap (λ (z : Grant). z.number) becomes ∙ number_after x g ∙ numbered_grant m h.grant g a.open_grant.0 in
     let there : grant_numbered h.grant after ≡ Some b.grant = placed_here (λ (z : Grant). z.number) h.grant b.grant g m.grants a.open_grant.0 number in
@@ -367,10 +397,10 @@ accepts s m t modem h x sound a fits =
     let dials : b.job.dial ≡ h.dial = report_dial x s.delay t j g b made.1 ∙ ap (λ (z : Job). z.dial) one ∙ aged_dial t a.job ∙ a.dial in
     record {
       after = after;
-      reply = report_reply s t x after b;
+      reply = report_reply s t x left b;
       taken =
-          ap (on_grant s (aged t m) t x) a.open_grant.0
+          ap (stamped t (aged t m)) (ap (on_grant s (aged t m) t x) a.open_grant.0
           ∙ ap (on_both s (aged t m) t x g) held.1
-          ∙ ap (machine.reported (aged t m) (report_reply s t x) j) made.1;
+          ∙ ap (machine.reported (aged t m) (report_reply s t x) j) made.1);
       agrees = λ k e. agrees_after x after modem h k g b.job (there ∙ ap (λ (z : Grant). Some z) becomes) a.open_grant.1 a.of_modem a.of_job a.first_page a.last_page a.call a.pages job_there dials e;
     }

@@ -31,7 +31,7 @@ use Rattle.faxqd.specs.Check.{Checks, ChecksBy, HasNoDatabase, IsTrueOf, IsVerdi
 
 -- ---- rows that were taken
 
--- one row of meta stands by rowid, as the second version has it
+-- one row of meta stands by rowid, as the third version has it
 raised_by : (rows : List Row) (v : Value) → map (λ r. column r 5) rows ≡ v ∷ [] → IsByRowid rows → IsByRowid (map raised rows)
 raised_by [] v one by = absurd cc
 raised_by (r ∷ []) v one by = record { rise = (tt, tt); integers = (by.integers.0, tt) }
@@ -40,10 +40,10 @@ raised_by (r ∷ s ∷ rows) v one by = absurd cc
 -- so it does, of whatever version it is
 meta_by : (version : ℕ) (rows : List Row) (v : Value) → map (λ r. column r 5) rows ≡ v ∷ [] → IsByRowid rows → IsByRowid (meta_as version rows)
 meta_by version rows v one by =
-    let raises = λ (is : Bool). IsByRowid (if is then map raised rows else rows) in
-    elim (cases_Bool (version == 1)) [
-      | inl first ↦ subst raises (sym first) (raised_by rows v one by)
-      | inr second ↦ subst raises (sym second) by
+    let raises = λ (is : Bool). IsByRowid (if is then rows else map raised rows) in
+    elim (cases_Bool (version == 3)) [
+      | inl third ↦ subst raises (sym third) by
+      | inr other ↦ subst raises (sym other) (raised_by rows v one by)
     ]
 
 module _ (found now : Database) (ours : IsOurs found) (taken : IsTaken found now) where
@@ -57,11 +57,17 @@ module _ (found now : Database) (ours : IsOurs found) (taken : IsTaken found now
   }
 
   -- where they mean a sound queue, so do the rows that were found
-  found_sound : IsByRowid (found.trees meta_tree) → IsSound now → MeanSound found
+  found_sound : StandByRowid found now → IsSound now → MeanSound found
   found_sound by sound = (
     sound.0,
     sound.1,
-    record { version = ours.version; full = now; means = sound.2; same = record { rows = taken.rows; meta = taken.meta (inr by); second = taken.second } },
+    record {
+      version = ours.version;
+      ordered = by.grants;
+      full = now;
+      means = sound.2;
+      same = record { rows = taken.rows; grants = taken.grants (inr by.grants); meta = taken.meta (inr by.meta); floors = taken.floors; times = taken.times (inr by.jobs) };
+    },
     sound.3,
   )
 
@@ -81,7 +87,7 @@ is_true : (found : Database) (opened new : State) (verdict : Option Flaw) → Is
 is_true found opened new None ours has serves means it clean = λ by.
     let same = (it.reads has.taken.schema_is clean).0.now_is in
     let here : StandByRowid found opened.now = subst (λ (now : Database). StandByRowid found now) same by in
-    found_sound found opened.now ours has.taken here.meta (it.tells (taken_stored found opened.now ours has.taken here) clean)
+    found_sound found opened.now ours has.taken here (it.tells (taken_stored found opened.now ours has.taken here) clean)
 is_true found opened new (Some flaw) ours has serves means it clean = λ mean.
     let sound : IsSound opened.now = (mean.0, mean.1, (means mean.0 mean.1 ours.schema_is mean.2 serves).means, mean.3) in
     it.tells (sound_stored opened.now sound) clean sound

@@ -16,7 +16,7 @@ use Rattle.fax_files.specs.declared.database.OpenFault.{OpenFault}
 use Rattle.fax_http.specs.Device.{BrokeOff, Put}
 use Rattle.fax_http.specs.declared.device.Watched.{Watched}
 use Rattle.fax_schema.specs.ByRowid.{IsByRowid}
-use Rattle.fax_schema.specs.Schema.{meta_tree, no_tables}
+use Rattle.fax_schema.specs.Schema.{grants_tree, jobs_tree, meta_tree, no_tables}
 use Rattle.fax_store.specs.Adopt.{IsOurs}
 use Rattle.fax_tables.specs.Tables.{AreByRowid, RowsMean}
 use Rattle.fax_tables.specs.declared.fault.StoreFault.{StoreFault}
@@ -29,9 +29,11 @@ use Rattle.fax_text.specs.declared.status.Status.TheVariants.{Success, Fault, Us
 abbrev pub MeanSound : Database → Type 0
 MeanSound found = (m : Queue) × (k : Ledger) × RowsMean found m k × Sound m
 
--- Rows stand by rowid, as `sqlite` keeps those of every table: those that are checked, and those of meta as they were found.
+-- Rows stand by rowid, as `sqlite` keeps those of every table: those that are checked, and those of jobs, grants and meta as they were found.
 pub record StandByRowid (found now : Database) : Type 0 where
   pub rows : AreByRowid now
+  pub jobs : IsByRowid (found.trees jobs_tree)
+  pub grants : IsByRowid (found.trees grants_tree)
   pub meta : IsByRowid (found.trees meta_tree)
 
 -- where no flaw is told the rows mean a sound queue, and where one is they mean none

@@ -10,5 +10,5 @@ returns g c =
     let old = state g.S.Store c.args.conn.now in
     let new = state g.S.Store c.pass.new.conn in
     ok_as old new _ _ _ _ c.in_ok-found.ensures (λ stored told.
-    subst (IsTableChecked c.args.meta.now c.args.held.now c.args.table old.now) (sym c.flaw_in.ensures)
-    (table_checked (state g.S.Store (told.1).0) new old.now stored (told.1).1 c.args.meta.now c.args.held.now told.0 c.args.table c.in_ok-found.found (told.1).2 told.2))
+    subst (IsTableChecked c.args.meta.now c.args.held.now c.args.query old.now) (sym c.flaw_in.ensures)
+    (table_checked (state g.S.Store (told.1).0) new old.now stored (told.1).1 c.args.meta.now c.args.held.now told.0 c.args.query c.in_ok-found.found (told.1).2 told.2))

@@ -8,8 +8,8 @@ use Rattle.fax_store.specs.Store.{HasTables}
 use Rattle.fax_check.proofs.checking.check_tables.Given as goal
 
 -- those so far are whole
-abbrev pub invariant-loop-table : goal.invariant-loop-table
-invariant-loop-table g l = record {
+abbrev pub invariant-loop-query : goal.invariant-loop-query
+invariant-loop-query g l = record {
   since : Since g.S.Store (HasTables (state g.S.Store l.initial.conn)) l.initial.conn l.conn;
-  told : IsStored (state g.S.Store l.initial.conn).now → HasCleanDisk (state g.S.Store l.conn) → All (IsWholeTable l.meta l.held (state g.S.Store l.initial.conn).now) (take l.table-index passed);
+  told : IsStored (state g.S.Store l.initial.conn).now → HasCleanDisk (state g.S.Store l.conn) → All (IsWholeTable l.meta l.held (state g.S.Store l.initial.conn).now) (take l.query-index passed);
 }

@@ -11,7 +11,7 @@ returns-in-End-clause-counted g c sql begun clean =
     let first = c.args.rows.now.conn.now in
     let mid = c.loop.rows.conn.now in
     let new = c.next_step.new.rows.conn.now in
-    let P = Shows c.args.meta.now c.args.held.now c.args.table in
+    let P = Shows c.args.meta.now c.args.held.now c.args.query in
     let before = c.loop.invariant.counted sql begun (c.in_ok-next_step.ensures.leaves.clean clean) in
     let step = subst (IsStep g.S.Store P sql before.0 mid new) c.in-End.is (c.in_ok-next_step.ensures.steps sql before.0 before.1 clean) in
     (before.0, (mid, sym (c.in_ok-next_step.ensures.leaves.same clean).0.now_is, step), before.2)
@@ -21,7 +21,7 @@ loop-preserved g c =
     let first = c.args.rows.now.conn.now in
     let mid = c.loop.rows.conn.now in
     let new = c.next_step.new.rows.conn.now in
-    let P = Shows c.args.meta.now c.args.held.now c.args.table in
+    let P = Shows c.args.meta.now c.args.held.now c.args.query in
     record {
       same_reference = c.next_step.ensures.same_reference ∙ c.loop.invariant.same_reference;
       passed = pass_more g.S.Store c.loop.counter first mid new _ c.loop.invariant.passed c.in_ok-next_step.ensures.leaves;

@@ -13,5 +13,5 @@ invariant-loop g l = record {
   same_reference : l.rows.conn.ghost_name ≡ l.initial.rows.conn.ghost_name;
   passed : Passed g.S.Store l.counter l.initial.rows.conn.now l.rows.conn.now;
   counted : (sql : List ℕ) → HasGiven g.S.Store sql [] l.initial.rows.conn.now [] → HasCleanDisk (state g.S.Store l.rows.conn.now)
-      → (given : List Row) × HasGiven g.S.Store sql [] l.rows.conn.now given × MatchOption l.flaw (All (Shows l.meta l.held l.table) given) (λ _. ¬ All (Shows l.meta l.held l.table) given);
+      → (given : List Row) × HasGiven g.S.Store sql [] l.rows.conn.now given × MatchOption l.flaw (All (Shows l.meta l.held l.query) given) (λ _. ¬ All (Shows l.meta l.held l.query) given);
 }

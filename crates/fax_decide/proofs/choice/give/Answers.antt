@@ -3,6 +3,7 @@ use Rattle.fax_core.specs.Ageing.{aged}
 use Rattle.fax_core.specs.Decisions.{grant, granted}
 use Rattle.fax_core.specs.Job.{job_of, Job}
 use Rattle.fax_core.specs.Machine.{given}
+use Rattle.fax_core.specs.Times.{has_ended}
 use Rattle.fax_core.specs.declared.grants.Grant.{Grant}
 use Rattle.fax_decide.specs.Choice.{IsGrantOf}
 use Rattle.fax_decide.specs.Decision.{Decides}
@@ -32,7 +33,7 @@ returns-in-Ok-clause-decided c m t sound there next waits =
     } in
     given_by (λ step. OrNoAnswer c.given.result (Decides step m t)) (aged t m) (job_of c.args.job) c.args.modem c.args.next_grant c.max_grants.result c.args.office.now.setup.max_grants
     (Ok c.in-Ok.change) c.new-grant.result c.new-grant.ensures (c.in-Ok.ensures c.args.modem) c.max_grants.ensures.number
-    (c.given.ensures m t sound there (ap (λ (g : Grant). g.number) c.new-grant.ensures ∙ next) new
+    (c.given.ensures m t sound there (ap (λ (g : Grant). g.number) c.new-grant.ensures ∙ next) (ap has_ended waits) new
     (grant_keeps c.args.job c.args.modem c.args.next_grant c.max_grants.result _ c.in-Ok.change (c.in-Ok.ensures c.args.modem)))
 
 pub refused-requires : goal.refused-requires

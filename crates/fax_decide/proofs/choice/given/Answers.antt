@@ -10,11 +10,11 @@ use Rattle.fax_decide.proofs.KeptLemmas.{grant_within}
 use Rattle.fax_decide.proofs.choice.given.Goals as goal
 
 pub returns : goal.returns
-returns c m t sound there n new keeps =
+returns c m t sound there n goes new keeps =
     taken_or (NewGrant c.in_ok-job.job c.args.grant) _ _ c.answered-reply.result _ c.take.ensures c.answered-reply.ensures (λ r told.
-    given_new m t c.args.change c.args.job c.in_ok-job.job c.args.grant r sound there (cc) n c.in_ok-job.ensures.after
+    given_new m t c.args.change c.args.job c.in_ok-job.job c.args.grant r sound there (cc) n c.in_ok-job.ensures.after goes
     (grant_within c.args.job c.args.grant c.in_ok-job.ensures.lawful new (omega (arith, n, grants_few m sound)))
     (λ q dial. told ∙ ap (λ (h : Handed). accepted_response (Replied (Given h))) (c.handed.ensures q dial)))
 
 pub returns-in_err-job : goal.returns-in_err-job
-returns-in_err-job c m t sound there n new keeps = absurd (let no = c.in_err-job.ensures.kept keeps in cc)
+returns-in_err-job c m t sound there n goes new keeps = absurd (let no = c.in_err-job.ensures.kept keeps in cc)

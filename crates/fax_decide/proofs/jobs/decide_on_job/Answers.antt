@@ -1,6 +1,8 @@
 use Rattle.std.proofs.Common.{refl, ap, subst, sym, option_map, IfOk, ◌∙◌}
 use Rattle.fax_core.specs.Ageing.{aged}
+use Rattle.fax_core.specs.Job.{job_of}
 use Rattle.fax_core.specs.Machine.{on_job}
+use Rattle.fax_core.proofs.DecisionLemmas.{asked_goes}
 use Rattle.fax_decide.specs.Decision.{Decides}
 use Rattle.fax_decide.specs.Fault.{fault_of}
 use Rattle.fax_decide.specs.Records.{job_in}
@@ -19,7 +21,7 @@ returns-in-Ok g c = gives (both c.in_ok-job.ensures.consults c.changed.ensures) 
     let there = sym both.0 ∙ ap (option_map (job_in (aged c.args.t m))) c.in-Some.is in (
       subst (λ step. IfOk c.changed.result (Decides step m c.args.t))
           (on_job_is (settings_of c.args.office.now.setup c.args.office.now.controls) m c.args.t c.args.ask c.args.number _ c.in-Some.job there c.in-Ok.ensures)
-          (both.1.0 (found_itself (aged c.args.t m) c.args.number c.in-Some.job there)),
+          (both.1.0 (found_itself (aged c.args.t m) c.args.number c.in-Some.job there) (asked_goes c.args.ask c.args.t (job_of c.in-Some.job) _ (sym c.in-Ok.ensures))),
       λ read. both.1.1 (job_keeps c.args.ask c.args.t c.in-Some.job c.in-Ok.change read c.in-Ok.ensures),
     ))
 

@@ -8,12 +8,12 @@ use Rattle.fax_decide.proofs.ReportLemmas.{report_taken}
 use Rattle.fax_decide.proofs.reports.confirmed.Goals as goal
 
 pub returns : goal.returns
-returns c m before there same number begins far keeps =
+returns c m before there same number begins far goes keeps =
     taken_or (Reported c.in_ok-job.job c.args.grant) _ _ c.answered.result _ c.take.ensures c.answered.ensures (λ r told.
     report_taken m c.args.t c.args.change c.args.job c.in_ok-job.job before c.args.grant (page_reply c.args.t) r there same number
     (confirmed_within before c.args.grant c.args.change c.args.job c.in_ok-job.job c.fields.ensures.lawful c.in_ok-job.ensures.after same begins far)
-    c.in_ok-job.ensures.after
+    c.in_ok-job.ensures.after goes
     (λ n. rw (c.fields.ensures.fields ∙ sym (record_again c.in_ok-job.job), c.stops.ensures) at told))
 
 pub returns-in_err-job : goal.returns-in_err-job
-returns-in_err-job c m before there same number begins far keeps = absurd (let no = c.in_err-job.ensures.kept keeps in cc)
+returns-in_err-job c m before there same number begins far goes keeps = absurd (let no = c.in_err-job.ensures.kept keeps in cc)

@@ -19,8 +19,8 @@ returns-in-Ok-clause-decided c m there few fit =
     reported_on (λ step. OrNoAnswer c.called.result (Decides step m c.args.t)) (aged c.args.t m) (call_reply c.args.t) _ (job_of c.args.job) c.in-Ok.change _ c.with_call.result _ _
     c.with_call.ensures c.in-Ok.ensures (call_lined _ c.args.said (job_of c.args.job) c.args.grant)
     (c.called.ensures m c.args.grant there (subst (IsSameGrant c.args.grant) (sym c.with_call.ensures) (same_given c.args.grant (Some c.args.said) _))
-    (cc) (rw c.with_call.ensures few.1)
-    (call_keeps c.args.job c.args.grant _ c.in-Ok.change (fit (was_open c.args.grant _ _ c.in-Ok.ensures)) c.args.said c.in-Ok.ensures))
+    (cc) (rw c.with_call.ensures few.1) (fit (was_open c.args.grant _ _ c.in-Ok.ensures)).1
+    (call_keeps c.args.job c.args.grant _ c.in-Ok.change (fit (was_open c.args.grant _ _ c.in-Ok.ensures)).0 c.args.said c.in-Ok.ensures))
 
 pub returns-in-Err-clause-decided : goal.returns-in-Err-clause-decided
 returns-in-Err-clause-decided c m there few fit =

@@ -18,12 +18,12 @@ returns-in-Ok-clause-decided c m there few fit =
     let one : min (c.args.grant.confirmed + 1) 65535 ≡ c.args.grant.confirmed + 1 = let low = few.1 in omega (arith, low) in
     let next : c.with_page.result ≡ record c.args.grant { confirmed = c.args.grant.confirmed + 1 } = c.with_page.ensures ∙ ap (λ (n : ℕ). record c.args.grant { confirmed = n }) one in
     let far = subst (λ (g : Grant). g.first_page + g.confirmed ≡ length (changed c.in-Ok.change (job_of c.args.job)).sent + 1) (sym next)
-    (page_goes c.args.said c.args.job c.args.grant c.in-Ok.change fit c.in-Ok.ensures) in
+    (page_goes c.args.said c.args.job c.args.grant c.in-Ok.change (λ is_open. (fit is_open).0) c.in-Ok.ensures) in
     reported_on (λ step. OrNoAnswer c.confirmed.result (Decides step m c.args.t)) (aged c.args.t m) (page_reply c.args.t) _ (job_of c.args.job) c.in-Ok.change _ c.with_page.result _ _
     next c.in-Ok.ensures (page_lined _ c.args.said (job_of c.args.job) c.args.grant)
     (c.confirmed.ensures m c.args.grant there (subst (IsSameGrant c.args.grant) (sym next) (same_given c.args.grant _ (c.args.grant.confirmed + 1)))
-    (ap (λ (g : Grant). g.number) next) few.0 far
-    (page_keeps c.args.job c.args.grant _ c.in-Ok.change (fit (was_open c.args.grant _ _ c.in-Ok.ensures)) c.args.said c.in-Ok.ensures))
+    (ap (λ (g : Grant). g.number) next) few.0 far (fit (was_open c.args.grant _ _ c.in-Ok.ensures)).1
+    (page_keeps c.args.job c.args.grant _ c.in-Ok.change (fit (was_open c.args.grant _ _ c.in-Ok.ensures)).0 c.args.said c.in-Ok.ensures))
 
 pub returns-in-Err-clause-decided : goal.returns-in-Err-clause-decided
 returns-in-Err-clause-decided c m there few fit =

@@ -1,5 +1,4 @@
 use Rattle.std.proofs.Common.{true, false, refl, subst, sym}
-use Rattle.fax_schema.specs.Schema.{jobs_tree}
 use Rattle.fax_schema.specs.Shape.{Passes, indexed_as}
 use Rattle.fax_schema.specs.declared.shape.Part.TheVariants as part
 use Rattle.fax_schema.proofs.ShapeLemmas.{passes_index}
@@ -15,4 +14,5 @@ pub returns-in-Index : goal.returns-in-Index
 returns-in-Index c =
     let left = c.args.left in
     let shape = c.in-Index.shape in
-    subst (λ first. Passes left first c.behind_index-in-Index.result) (sym c.in-Index.is) (passes_index left (part.Index shape) (indexed_as shape left.tree jobs_tree false) c.behind_index-in-Index.result (λ _. refl) (λ _. refl) c.behind_index-in-Index.ensures)
+    let table = c.in-Index.table in
+    subst (λ first. Passes left first c.behind_index-in-Index.result) (sym c.in-Index.is) (passes_index left (part.Index shape table) (indexed_as shape left.tree table false) c.behind_index-in-Index.result (λ _. refl) (λ _. refl) c.behind_index-in-Index.ensures)

@@ -3,7 +3,12 @@ use Rattle.fax_decide.proofs.WorkLemmas.{refused_any}
 use Rattle.fax_decide.proofs.effect.Effect.change.Goals as goal
 
 pub returns-in-NewJob-clause-changes : goal.returns-in-NewJob-clause-changes
-returns-in-NewJob-clause-changes g c m₀ m k₀ k suits works = rw c.in-NewJob.is (c.put_job.ensures.changes m₀ m k₀ k works)
+returns-in-NewJob-clause-changes g c m₀ m k₀ k suits works = rw c.in-NewJob.is (c.put_next_job.ensures.changes m₀ m k₀ k (rw c.in-NewJob.is at suits) works)
+
+pub returns-in-NewJob-clause-cause : goal.returns-in-NewJob-clause-cause
+returns-in-NewJob-clause-cause g c m₀ m k₀ k works s fits =
+    let fit = rw c.in-NewJob.is at fits in
+    c.put_next_job.ensures.cause m₀ m k₀ k works s (fit.suits, fit.free, fit.within)
 
 pub returns-in-Marked-clause-changes : goal.returns-in-Marked-clause-changes
 returns-in-Marked-clause-changes g c m₀ m k₀ k suits works = rw (c.in-Marked.is, ← c.as_str.ensures.text) (c.set_down.ensures.makes.changes m₀ m k₀ k works)
@@ -38,7 +43,8 @@ returns-in_ok-put_change-in-Closed-clause-leaves g c = follows_then g.S.Store _ 
 pub returns-in_ok-put_change-in-NewGrant-clause-cause : goal.returns-in_ok-put_change-in-NewGrant-clause-cause
 returns-in_ok-put_change-in-NewGrant-clause-cause g c m₀ m k₀ k works s fits =
     let fit = rw c.in-NewGrant.is at fits in
-    c.put_grant.ensures.cause m₀ _ k₀ _ (c.put_change-in-NewGrant.ensures.changes m₀ m k₀ k fit.suits works) s (fit.within.0, fit.free.0, fit.free.1, fit.within.1)
+    c.put_grant.ensures.cause m₀ _ k₀ _ (c.put_change-in-NewGrant.ensures.changes m₀ m k₀ k fit.suits works) s
+    (fit.within.0, record { number = (fit.free.0).number; modem = (fit.free.0).modem; job = (fit.free.0).job }, fit.free.1, fit.within.1)
 
 pub returns-in_ok-put_change-in-Closed-clause-cause : goal.returns-in_ok-put_change-in-Closed-clause-cause
 returns-in_ok-put_change-in-Closed-clause-cause g c m₀ m k₀ k works s fits =

@@ -2,7 +2,8 @@ use Rattle.std.proofs.Common.{rules, ap, inl, sym, subst, ◌∙◌}
 use Rattle.std.specs.Prelude.{⊤}
 use Rattle.sqlite.specs.Held.{state}
 use Rattle.fax_core.specs.Clock.{decided_at}
-use Rattle.fax_core.specs.Machine.{step}
+use Rattle.fax_core.specs.Ageing.{aged}
+use Rattle.fax_core.specs.Machine.{act}
 use Rattle.fax_store.proofs.FrameLemmas.{looks_of, looks_then, means_now}
 use Rattle.fax_store.proofs.StoreLemmas.{means_stay}
 use Rattle.fax_store.specs.Store.{Serves}
@@ -75,7 +76,7 @@ returns-in-Taken g c =
           let looked = means_stay look.served look.stays m k means in
           let meta = λ (at : Serves between). c.in_ok-meta.ensures.answers m k (means_now means) (c.decide.ensures.leaves.served at) in
           let now = λ (at : Serves between). c.later-t.ensures ∙ ap (λ meta. decided_at meta.clock c.args.arrival.now.moment) (meta at) in
-          let decides = λ (at : Serves between). subst (Decides (step settings m t ask) m t) c.in-Taken.is (c.in_ok-decision.ensures.decided m k sound (means_stay first.served first.stays m k means) at (meta at)) in
+          let decides = λ (at : Serves between). subst (Decides (act settings (aged t m) t ask) m t) c.in-Taken.is (c.in_ok-decision.ensures.decided m k sound (means_stay first.served first.stays m k means) at (meta at)) in
           record {
             crash = then_stops (state g.S.Store c.args.self.now.store.conn) between new _ _ look.crash look.served (λ at. is)
                 (taken_stops settings c.args.arrival.now m k c.args.sender.now t ask effect c.given_by-given.result reply between new c.given_by-given.ensures asks.from now decides
@@ -106,7 +107,7 @@ returns-in-Refused g c =
           let between = state g.S.Store c.decide.new.store.conn in
           let meta = λ (at : Serves between). c.in_ok-meta.ensures.answers m k (means_now means) (c.decide.ensures.leaves.served at) in
           let now = λ (at : Serves between). c.later-t.ensures ∙ ap (λ meta. decided_at meta.clock c.args.arrival.now.moment) (meta at) in
-          let decides = λ (at : Serves between). subst (Decides (step settings m t ask) m t) c.in-Refused.is (c.in_ok-decision.ensures.decided m k sound (means_stay first.served first.stays m k means) at (meta at)) in
+          let decides = λ (at : Serves between). subst (Decides (act settings (aged t m) t ask) m t) c.in-Refused.is (c.in_ok-decision.ensures.decided m k sound (means_stay first.served first.stays m k means) at (meta at)) in
           record {
             crash = λ found may. inl (look.crash found may);
             leaves = λ clean.

@@ -1,11 +1,12 @@
-use Rattle.std.proofs.Common.{◌≡◌, [], ◌∷◌, subst, rules, string_bytes}
+use Rattle.std.proofs.Common.{◌≡◌, None, [], ◌∷◌, subst, rules, string_bytes}
 use Rattle.sqlite.specs.Order.{Row}
 use Rattle.sqlite.specs.declared.types.Value.TheVariants.{Text}
 use Rattle.fax_core.specs.Job.{job_of}
 use Rattle.fax_job.specs.declared.job.JobFields.{JobFields}
 use Rattle.fax_tables.specs.Job.{IsFormed, IsLawfulJob, job_shown}
 use Rattle.fax_store.specs.Calls.{WritesIf}
-use Rattle.fax_store.specs.Job.{IsNewJob, with_placed}
+use Rattle.fax_store.specs.Job.{with_placed}
+use Rattle.fax_core.specs.Queue.{job_numbered}
 use Rattle.fax_tables.specs.Row.{number}
 use Rattle.fax_store.proofs.JobLemmas.{job_put, job_goes, lawful_of_fields}
 use Rattle.fax_tables.proofs.RowLemmas.{shown_by}
@@ -23,5 +24,5 @@ returns g c =
     let formed : IsFormed j = search rules in
     let lawful : IsLawfulJob (job_of j) = lawful_of_fields j (search rules) formed in
     let inserts = inserts_with g.S.Store _ _ _ _ params (job_shown j) shown (inserts_with g.S.Store _ _ _ _ _ _ (search rules) c.insert.ensures) in
-    subst (λ (f : JobFields). WritesIf g.S.Store c.args.self.now c.insert.new.self c.insert.result (λ m k. IsNewJob (job_of f) m) (with_placed (job_of f)) (λ k. k)) same
+    subst (λ (f : JobFields). WritesIf g.S.Store c.args.self.now c.insert.new.self c.insert.result (λ m k. job_numbered f.job m ≡ None) (with_placed (job_of f)) (λ k. k)) same
     (writes_if_by g.S.Store _ _ _ _ (job_shown j) 0 _ _ _ inserts (λ m k means has. job_put _ _ m k means j lawful has) (λ m k means free e h. job_goes _ _ m k means j free e h))
