@@ -33,7 +33,7 @@ _faxqd() {
 
 _faxq() {
     local word=${COMP_WORDS[COMP_CWORD]} before=${COMP_WORDS[COMP_CWORD - 1]} command="" at words
-    local commands="submit status why suspend resume kill alter wait again modems retire left"
+    local commands="submit status why suspend resume kill alter wait times again modems retire left"
     for ((at = 1; at < COMP_CWORD; at++)); do
         [[ " $commands " != *" ${COMP_WORDS[at]} "* ]] || { command=${COMP_WORDS[at]} && break; }
     done

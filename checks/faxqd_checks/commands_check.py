@@ -1,5 +1,5 @@
 """What `check` says of a queue's file once the system's sqlite has spoilt a row of it, and what it takes for a large one."""
-from .databases import CALLS, FIRST, FIRST_BARE, NO_INDEXES
+from .databases import CALLS, FIRST, FIRST_BARE, NO_INDEXES, SECOND, SECOND_BARE
 from .heavy_jobs import copy_job, copy_reply
 from .runner import group
 from .shared import (SETUP, Server, attempt, changed, conversed, database_of, expect, expect_same, limited, post, rows_of, run,
@@ -29,14 +29,18 @@ MADE = [
 # and a closed grant may lack its job.
 SPARED = [
     "", "VACUUM", NO_INDEXES, "DELETE FROM calls", "UPDATE calls SET open = 5", "INSERT INTO calls VALUES ('5550122', 3)",
-    f"DROP TABLE calls; {CALLS}", FIRST, FIRST_BARE, f"{FIRST_BARE}; {CALLS}", "DELETE FROM replies", "DELETE FROM floors",
+    f"DROP TABLE calls; {CALLS}", SECOND, SECOND_BARE, f"{SECOND_BARE}; {CALLS}", FIRST, FIRST_BARE, f"{FIRST_BARE}; {CALLS}", "DELETE FROM replies", "DELETE FROM floors",
     "DELETE FROM down", "INSERT INTO down VALUES ('ttyS0')", "UPDATE jobs SET priority = 255, tts = 0 WHERE job = 3",
     "UPDATE holds SET rowid = 77", "UPDATE meta SET clock = 4102444800",
     "UPDATE replies SET number = 999999999999999999 WHERE client = 'desk' AND number = 1",
     "UPDATE floors SET upto = 999999999999999999",
-    *(f"DELETE FROM jobs WHERE job = {job}" for job in (2, 3, 5)), "UPDATE meta SET next_job = 7",
+    *(f"DELETE FROM jobs WHERE job = {job}; DELETE FROM times WHERE job = {job}" for job in (2, 3, 5)),
+    # Before the third version closed grants might lack their job.
+    f"DELETE FROM jobs WHERE job = 2; {SECOND}", f"DELETE FROM jobs WHERE job = 2; {FIRST}",
+    "UPDATE times SET submitted = 0", "UPDATE times SET submitted = 4102444800", "UPDATE times SET ended = 0",
+    "UPDATE times SET ended = 4102444800 WHERE job IN (2, 5)", "UPDATE meta SET next_job = 7",
     "UPDATE meta SET next_job = 1000000", "DELETE FROM grants WHERE id = 2", "UPDATE meta SET next_grant = 4",
-    "UPDATE jobs SET job = 9 WHERE job = 3; UPDATE meta SET next_job = 10",
+    "UPDATE jobs SET job = 9 WHERE job = 3; UPDATE times SET job = 9 WHERE job = 3; UPDATE meta SET next_job = 10",
 ]
 
 # A change, the table with the row that is told then, and where this row is.
@@ -74,6 +78,12 @@ SPOILT = [
         ("status = 404", "status = 404"), ("status = 0", "status = 0"))),
     *((f"UPDATE floors SET {change}", "floors", "TRUE") for change in (
         "client = 'a b'", "client = ''", "upto = 0", "upto = -1", "upto = 1000000000000000000")),
+    *((f"UPDATE times SET {change} WHERE job = 3", "times", "job = 3") for change in (
+        "submitted = -1", "submitted = 4102444801", "ended = -1", "ended = 4102444801", "ended = 1")),
+    ("UPDATE times SET job = 9 WHERE job = 3", "times", "job = 9"),
+    ("INSERT INTO times VALUES (9, 0, 0)", "times", "job = 9"),
+    ("DELETE FROM jobs WHERE job = 3", "times", "job = 3"),
+    ("UPDATE jobs SET phase = 1, npages = 0 WHERE job = 5", "times", "job = 5"),
     *((f"UPDATE meta SET {change}", "meta", "one = 1") for change in (
         "clock = -1", "clock = 4102444801", "next_job = 0", "next_job = 1000001", "next_grant = 0", "next_grant = 1000000001")),
     # Of several rows the first is told, and of several tables that which is read first.
@@ -87,7 +97,7 @@ SPOILT = [
 # Changes that keep the file from being opened.
 NOT_TAKEN = [
     "DELETE FROM jobs WHERE job = 1", "UPDATE jobs SET dial = '555 0111' WHERE job = 1", "UPDATE holds SET job = 99",
-    "UPDATE meta SET version = 9", "DELETE FROM meta", "DROP TABLE floors", "CREATE VIEW late AS SELECT job FROM jobs",
+    "UPDATE meta SET version = 9", "DELETE FROM meta", "DROP TABLE floors", "DROP TABLE times", "CREATE VIEW late AS SELECT job FROM jobs",
 ]
 
 

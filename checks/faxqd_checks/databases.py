@@ -9,17 +9,25 @@ check = group("databases", "Lists the jobs of databases that the system's sqlite
 
 META = "clock INTEGER NOT NULL, next_job INTEGER NOT NULL, next_grant INTEGER NOT NULL, version INTEGER NOT NULL"
 CALLS = "CREATE TABLE calls (dial TEXT PRIMARY KEY NOT NULL, open INTEGER NOT NULL) STRICT"
-NO_INDEXES = "DROP TABLE calls; DROP INDEX jobs_by_choice; DROP INDEX jobs_by_killtime"
+NO_INDEXES = "DROP TABLE calls; DROP INDEX grants_by_job; DROP INDEX jobs_by_choice; DROP INDEX jobs_by_killtime"
 FLOORS = "CREATE TABLE floors (client TEXT PRIMARY KEY NOT NULL, upto INTEGER NOT NULL) STRICT"
-# The tables of the first version alone, and with its indexes and calls.
-FIRST_BARE = f"{NO_INDEXES}; DROP TABLE floors; UPDATE meta SET version = 1"
-FIRST = (f"{FIRST_BARE}; CREATE INDEX jobs_by_killtime ON jobs (phase, killtime); CREATE INDEX jobs_by_choice ON jobs "
-         f"(phase, priority, tts, job, next, killtime, dial, modem); {CALLS}")
+TIMES = "CREATE TABLE times (job INTEGER PRIMARY KEY NOT NULL, submitted INTEGER NOT NULL, ended INTEGER NOT NULL) STRICT"
+JOB_INDEXES = ("CREATE INDEX jobs_by_killtime ON jobs (phase, killtime); CREATE INDEX jobs_by_choice ON jobs "
+               "(phase, priority, tts, job, next, killtime, dial, modem)")
+# The tables of the second and of the first version alone, and with their indexes and calls.
+SECOND_BARE = f"{NO_INDEXES}; DROP TABLE times; UPDATE meta SET version = 2"
+SECOND = f"{SECOND_BARE}; {JOB_INDEXES}; {CALLS}"
+FIRST_BARE = f"{NO_INDEXES}; DROP TABLE times; DROP TABLE floors; UPDATE meta SET version = 1"
+FIRST = f"{FIRST_BARE}; {JOB_INDEXES}; {CALLS}"
 
 # Changes of an empty queue, and what isn't a queue then.
 STRANGE = [
     "UPDATE meta SET version = 9",
     "UPDATE meta SET version = 1",
+    "UPDATE meta SET version = 2",
+    "DROP TABLE times",
+    "DROP TABLE times; UPDATE meta SET version = 2",
+    "DROP INDEX grants_by_job",
     "DROP TABLE floors",
     "DROP TABLE floors; CREATE TABLE floors (client TEXT PRIMARY KEY NOT NULL, upto INTEGER) STRICT",
     "DELETE FROM meta",
@@ -31,15 +39,15 @@ STRANGE = [
     "CREATE TABLE more (name TEXT NOT NULL) STRICT",
     "CREATE INDEX by_job ON grants (job)",
     "DROP INDEX jobs_by_choice",
-    "DROP INDEX jobs_by_choice; DROP INDEX jobs_by_killtime; UPDATE meta SET version = 9",
+    "DROP INDEX grants_by_job; DROP INDEX jobs_by_choice; DROP INDEX jobs_by_killtime; UPDATE meta SET version = 9",
     "CREATE VIEW late AS SELECT job FROM jobs",
-    f"{NO_INDEXES}; DROP TABLE floors; DROP TABLE meta; CREATE TABLE meta (one INTEGER PRIMARY KEY NOT NULL, {META}) STRICT; "
-    f"INSERT INTO meta VALUES (1, 0, 1, 1, 2); {FLOORS}",
+    f"{NO_INDEXES}; DROP TABLE times; DROP TABLE floors; DROP TABLE meta; "
+    f"CREATE TABLE meta (one INTEGER PRIMARY KEY NOT NULL, {META}) STRICT; INSERT INTO meta VALUES (1, 0, 1, 1, 3); {FLOORS}; {TIMES}",
 ]
 
 # A table that is spelled otherwise.
-SPELLED = (f"{NO_INDEXES}; DROP TABLE floors; DROP TABLE meta; create table \"meta\" (one integer not null primary key, {META.lower()}, "
-           f"constraint only_one check ( (one = 1) )) strict; insert into meta values (1, 0, 1, 1, 2); {FLOORS.lower()}")
+SPELLED = (f"{NO_INDEXES}; DROP TABLE times; DROP TABLE floors; DROP TABLE meta; create table \"meta\" (one integer not null primary key, {META.lower()}, "
+           f"constraint only_one check ( (one = 1) )) strict; insert into meta values (1, 0, 1, 1, 3); {FLOORS.lower()}; {TIMES.lower()}")
 
 # Two jobs to one number, with a grant of each.
 JOB = "'5550111', 'any', '', '', '', 0, 5000, 127, 0, 3, 0, 1, 3, 1, 1, 12, 2, 0, 0"
@@ -49,6 +57,7 @@ INSERT INTO jobs (job, dial, modem, jobtag, status, extra, tts, killtime, priori
 INSERT INTO grants (id, job, modem, first_page, last_page, call, pages, shut)
     VALUES (1, 1, 'ttyS0', 1, 3, 0, 0, 0), (2, 2, 'ttyS1', 1, 3, 0, 0, 0);
 INSERT INTO holds (modem, job, id) VALUES ('ttyS0', 1, 1), ('ttyS1', 2, 2);
+INSERT INTO times (job, submitted, ended) VALUES (1, 1000, 0), (2, 1000, 0);
 UPDATE meta SET next_job = 3, next_grant = 3;
 """
 
@@ -62,14 +71,20 @@ COUNTED = [
     ("DROP TABLE calls", BOTH),
     (NO_INDEXES, BOTH),
     ("INSERT INTO floors VALUES ('desk', 3); DROP TABLE calls", BOTH),
-    # Those of the first version, which had no floors.
+    # Those of the second version, which had no times, and of the first, which had no floors.
+    (SECOND, BOTH),
+    (f"{SECOND}; INSERT INTO calls VALUES ('5550111', 1)", BOTH),
+    (f"{SECOND}; DROP TABLE calls", BOTH),
+    (SECOND_BARE, BOTH),
+    (f"{SECOND_BARE}; {CALLS}", BOTH),
+    (f"{SECOND}; VACUUM", BOTH),
     (FIRST, BOTH),
     (f"{FIRST}; INSERT INTO calls VALUES ('5550111', 1)", BOTH),
     (f"{FIRST}; DROP TABLE calls", BOTH),
     (FIRST_BARE, BOTH),
     (f"{FIRST_BARE}; {CALLS}", BOTH),
     (f"{FIRST}; VACUUM", BOTH),
-    # All eight tables, and no indexes of jobs, or these in the order of VACUUM.
+    # All nine tables, and no indexes, or these in the order of VACUUM.
     (f"{NO_INDEXES}; {CALLS}; INSERT INTO calls VALUES ('5550111', 1)", BOTH),
     (f"INSERT INTO calls VALUES ('5550111', 1); VACUUM", BOTH),
     ("UPDATE jobs SET dial = '5550122' WHERE job = 2", [("5550111", 1), ("5550122", 1)]),
@@ -152,15 +167,18 @@ def counts(file, listed, calls):
 
 @check
 def dumped(folder):
-    """A database of either version that was made anew by sqlite3's `.dump` is taken, with its jobs, floors and calls."""
+    """A database of any version that was made anew by sqlite3's `.dump` is taken, with its jobs, times, floors and calls."""
     wants("sqlite3")
     empty = empty_queue(folder / "empty")
-    for version, statements in (2, f"{TWO_CALLS}; INSERT INTO floors VALUES ('desk', 3)"), (1, TWO_CALLS + FIRST):
+    floor = "INSERT INTO floors VALUES ('desk', 3)"
+    for version, statements, wanted in ((3, f"{TWO_CALLS}; {floor}", (3, 1, 2, 2000)), (2, f"{TWO_CALLS}; {floor}; {SECOND}", (3, 1, 2, 0)),
+                                        (1, TWO_CALLS + FIRST, (3, 0, 2, 0))):
         with attempt(f"version {version}"):
             copy = folder / f"copy-{version}.db"
             file = changed(empty, folder / str(version), statements)
             dump = subprocess.run(["sqlite3", file, ".dump"], check=True, capture_output=True)
             subprocess.run(["sqlite3", copy], input=dump.stdout, check=True, capture_output=True)
             counts(copy, True, BOTH)
-            found = rows_of(copy, "SELECT version, (SELECT count(*) FROM floors), (SELECT count(*) FROM jobs) FROM meta")
-            expect(found == [(2, version - 1, 2)], f"its version, floors and jobs are {found}")
+            found = rows_of(copy, "SELECT version, (SELECT count(*) FROM floors), (SELECT count(*) FROM jobs), "
+                            "(SELECT sum(submitted) FROM times) FROM meta")
+            expect(found == [wanted], f"its version, floors, jobs and times are {found}")

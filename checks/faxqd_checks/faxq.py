@@ -504,6 +504,25 @@ def again(queue, folder):
     expect(queue.desk.says(queue.url, "wait", "6")[0] == 0, "wait for a done job")
 
 
+@check
+def times(folder):
+    """`times` prints when a job came, and when it was over; no other text is taken for that."""
+    port, when = free_port(), "[0-9]{4}-[0-9]{2}-[0-9]{2} [0-9]{2}:[0-9]{2}:[0-9]{2}"
+    with serving(folder, port):
+        queue = Queue(folder, port)
+        queue.does("1", "submit", "888", "--pages", "3")
+        for wanted in "-", when:
+            status, out, err = queue.desk.says(queue.url, "times", 1)
+            expect(status == 0 and re.fullmatch(f"submitted {when}\nended {wanted}\n", out), f"it says {status} {out!r} {err!r}")
+            if wanted == "-":
+                queue.does("job 1 is failed", "kill", 1)
+        queue.fails("no-job", 1, "times", 2)
+    desk = Desk(folder / "other")
+    for text in "submitted:1\n", "submitted:1\nended:x\n", "ended:0\nsubmitted:1\n", "submitted:1\nended:0\nmore:1\n", "jobid:1\n":
+        with attempt(text), Answers(reply(200, text, "text/plain")) as peer:
+            desk.fails("isn't a fax queue", 3, peer.url, "times", 1)
+
+
 # ---- modems, and clients that are gone
 
 HELD = "grant 1 job 1 number 888 pages 1-3 call"

@@ -243,7 +243,7 @@ def damaged(wanted, is_changed, data):
 
 
 BIG = 2 ** 63 - 1
-TABLES = ("jobs", "grants", "holds", "down", "replies", "meta", "floors", "calls")
+TABLES = ("jobs", "grants", "holds", "down", "replies", "meta", "floors", "times", "calls")
 LOOSE = (("jobs", "dial TEXT NOT NULL"), ("jobs", "extra TEXT NOT NULL"), ("jobs", "priority INTEGER NOT NULL"),
          ("grants", "call INTEGER NOT NULL"), ("holds", "id INTEGER NOT NULL UNIQUE"), ("replies", "body BLOB NOT NULL"),
          ("meta", "clock INTEGER NOT NULL"))
@@ -270,7 +270,7 @@ def schemas(sound, wanted):
     statements = [f"DROP TABLE {name}" for name in TABLES if name not in ("down", "calls")]
     statements += [f"ALTER TABLE {name} ADD COLUMN more INTEGER" for name in TABLES]
     statements += [f"ALTER TABLE {name} RENAME COLUMN {old} TO other"
-                   for name, old in zip(TABLES, ("extra", "call", "id", "modem", "said", "clock", "upto", "open"))]
+                   for name, old in zip(TABLES, ("extra", "call", "id", "modem", "said", "clock", "upto", "ended", "open"))]
     statements += [f"schema |{table}|{column}|{column.replace(' NOT NULL', '')}" for table, column in LOOSE]
     statements += [
         "CREATE INDEX more ON jobs (tts)", "CREATE VIEW more AS SELECT job FROM jobs", "DELETE FROM meta",

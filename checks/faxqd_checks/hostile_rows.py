@@ -24,6 +24,7 @@ NOT_CHOSEN = {  # what job 3 gets where it waits still
 def requests():
     """What is asked, in this order, with its name and the status that a sound file gives it."""
     yield from ((f"job {job}", 200, get(f"/jobs/{job}")) for job in JOBS)
+    yield from ((f"times {job}", 200, get(f"/jobs/{job}/times")) for job in JOBS)
     yield "all jobs", 200, get("/jobs")
     yield "the newest jobs", 200, get("/jobs/newest")
     yield "the modems", 200, get("/modems")
@@ -55,9 +56,10 @@ OF_FLOOR = ["a number given up", "a number above its floor"]
 NO_CLOCK = {"no route", *REPEATS, "a number given up"}
 ROWS = [  # each row, where it is found, and the requests that read it
     *(("jobs", f"job = {job}",
-       [f"job {job}", "all jobs", "the newest jobs", *(f"{what} {job}" for what in ON_JOBS), *BESIDE.get(job, [])]) for job in JOBS),
+       [f"job {job}", f"times {job}", "all jobs", "the newest jobs", *(f"{what} {job}" for what in ON_JOBS), *BESIDE.get(job, [])]) for job in JOBS),
     ("grants", "id = 1", BESIDE[1]), ("grants", "id = 2", ON_GRANT[2]), ("holds", "modem = 'ttyS0'", HOLD),
     ("replies", "client = 'desk' AND number = 2", REPEATS), ("floors", "client = 'old'", OF_FLOOR),
+    ("times", "job = 3", ["times 3"]),
     ("meta", "one = 1", [name for name in ASKED if name not in NO_CLOCK])]
 
 
@@ -73,7 +75,7 @@ LIMITS = {  # the least and the greatest value of each column; a name stands for
     "grants": {"job": (1, LAST_JOB), "first_page": (1, 9999), "last_page": (0, 9999), "call": (0, 5), "pages": (0, 9999),
                "shut": (0, 1)},
     "holds": {"job": (1, LAST_JOB), "id": (1, LAST_GRANT)}, "replies": {"status": (200, 201)},
-    "floors": {"upto": (0, LAST_NUMBER)},
+    "floors": {"upto": (0, LAST_NUMBER)}, "times": {"submitted": (0, LAST_MOMENT), "ended": (0, LAST_MOMENT)},
     "meta": {"clock": (0, LAST_MOMENT), "next_job": (1, LAST_JOB + 1), "next_grant": (1, LAST_GRANT + 1)}}
 LEAST_ONE = "totpages", "maxtries", "maxdials"
 NAMES = ["''", f"'{33 * 'm'}'", "'a b'", "'a/b'", "'é'", "'ttyS0' || char(0)", "'ttyS0' || char(10)", "CAST(X'C3' AS TEXT)"]

@@ -97,7 +97,7 @@ def tables(file):
     with database_of(file) as database:
         database.text_factory = bytes
         return {name: sorted(database.execute(f"SELECT * FROM {name}").fetchall(), key=repr)
-                for name in ("jobs", "grants", "holds", "down", "replies", "meta", "floors", "calls")}
+                for name in ("jobs", "grants", "holds", "down", "replies", "meta", "floors", "times", "calls")}
 
 
 def expect_rows(got, wanted, what):

@@ -101,40 +101,46 @@ def other_files(folder):
 
 
 CALLS = "CREATE TABLE calls (dial TEXT PRIMARY KEY NOT NULL, open INTEGER NOT NULL) STRICT"
-BARE = ("DROP TABLE calls; DROP INDEX jobs_by_choice; DROP INDEX jobs_by_killtime; DROP TABLE floors; "
-        "UPDATE meta SET version = 1")
+INDEXES = "DROP INDEX grants_by_job; DROP INDEX jobs_by_choice; DROP INDEX jobs_by_killtime"
+NO_TIMES = f"DROP TABLE calls; {INDEXES}; DROP TABLE times"
+BARE = f"{NO_TIMES}; DROP TABLE floors; UPDATE meta SET version = 1"
 KILLS = f"{BARE}; CREATE INDEX jobs_by_killtime ON jobs (phase, killtime)"
 SIX = f"{KILLS}; CREATE INDEX jobs_by_choice ON jobs (phase, priority, tts, job, next, killtime, dial, modem)"
+SECOND = SIX.replace("DROP TABLE floors; UPDATE meta SET version = 1", "UPDATE meta SET version = 2")
 OLDER = f"{KILLS}; CREATE INDEX jobs_by_choice ON jobs (phase, priority, tts)"
 OTHER = OLDER.replace("priority, tts)", "tts, priority)")
 REFUSED = {
-    "a queue of another version": "UPDATE meta SET version = 3",
+    "a queue of another version": "UPDATE meta SET version = 4",
+    "a queue of version 2 with times": "UPDATE meta SET version = 2",
+    "a queue of version 3 without times": "DROP TABLE times",
     "a queue of version 1 with floors": "UPDATE meta SET version = 1",
-    "a queue of version 2 without floors": "DROP TABLE floors",
+    "a queue without floors": "DROP TABLE floors",
     "a queue with another table": "CREATE TABLE notes (text TEXT)",
     "a queue that lacks a table": "DROP TABLE down",
     "a queue with another table of calls": "DROP TABLE calls; CREATE TABLE calls (dial TEXT PRIMARY KEY, open INTEGER)",
     "a queue with a hold of no job": "INSERT INTO holds VALUES ('ttyS0', 9, 1)",
     "a queue with another index": f"{OTHER}; {CALLS}",
     "a queue that lacks one index": "DROP INDEX jobs_by_choice",
-    "a queue whose indexes were dropped from beside its calls": "DROP INDEX jobs_by_choice; DROP INDEX jobs_by_killtime",
+    "a queue whose indexes were dropped from beside its calls": INDEXES,
 }
 HELD = ("UPDATE jobs SET phase = 2; INSERT INTO holds VALUES ('ttyS0', 1, 1); "
         "INSERT INTO grants VALUES (1, 1, 'ttyS0', 1, 1, 0, 0, 0); INSERT INTO calls VALUES ('5550222', 3)")
 ONE = [("5550111", 1)]
-ALONE = "DROP INDEX jobs_by_choice; DROP INDEX jobs_by_killtime; VACUUM"
+ALONE = f"{INDEXES}; VACUUM"
 TAKEN = {
     "a queue of version 1": (f"{SIX}; {CALLS}", []),
     "a queue of version 1 without calls": (SIX, []),
     "a queue of version 1 with neither calls nor indexes": (BARE, []),
     "a queue of version 1 with calls and no indexes": (f"{BARE}; {CALLS}", []),
     "a queue of version 1 that was vacuumed": (f"{SIX}; {CALLS}; VACUUM", []),
+    "a queue of version 2": (f"{SECOND}; {CALLS}", []),
+    "a queue of version 2 that was vacuumed": (f"{SECOND}; {CALLS}; VACUUM", []),
     "a queue with the index of older versions": (f"{OLDER}; {CALLS}", []),
     "a queue with that index, and without calls": (OLDER, []),
     "a queue with that index that was vacuumed": (f"{OLDER}; {CALLS}; VACUUM", []),
     "a queue without indexes": (ALONE, []),
     "a queue without calls": ("DROP TABLE calls", []),
-    "a queue with neither": ("DROP TABLE calls; DROP INDEX jobs_by_choice; DROP INDEX jobs_by_killtime", []),
+    "a queue with neither": (f"DROP TABLE calls; {INDEXES}", []),
     "a queue that counts calls": ("INSERT INTO calls VALUES ('5550111', 1), ('x', -1)", []),
     "a queue that counts other calls": (HELD, ONE),
     # Whatever other rows say, what is held is counted.
@@ -171,12 +177,13 @@ def is_taken(file, calls):
             return database.execute(text).fetchall()
 
         made = ask("SELECT name FROM sqlite_master WHERE type = 'index' AND sql NOT NULL")
-        expect(sorted(made) == [("jobs_by_choice",), ("jobs_by_killtime",)], f"it has the indexes {made}")
+        expect(sorted(made) == [("grants_by_job",), ("jobs_by_choice",), ("jobs_by_killtime",)], f"it has the indexes {made}")
         columns = [column[2] for column in ask("PRAGMA index_info (jobs_by_choice)")]
         expect(columns == "phase priority tts job next killtime dial modem".split(), f"it has an index by {columns}")
         counted = ask("SELECT * FROM calls")
         expect(counted == calls, f"it counts the calls {counted}, and {calls} are open")
-        expect(ask("SELECT version FROM meta") == [(2,)], "it isn't of version 2")
+        expect(ask("SELECT version FROM meta") == [(3,)], "it isn't of version 3")
+        expect(ask("SELECT job, ended FROM times") == [(1, 0)], "its job hasn't its times")
         expect(ask("SELECT * FROM floors") == [], "it has floors")
         expect(ask("PRAGMA integrity_check") == [("ok",)], "it isn't sound")
 

@@ -11,10 +11,12 @@ from .shared import Wrong, attempt, database_of, expect, fault, option, said, sa
 
 check = group("stops", "Stops `serve` at each call of the disk that a request or a start makes; the files are then left as "
               "a power loss may leave them, and it starts on them.", "computing")
-INDEXES = "DROP TABLE calls; DROP INDEX jobs_by_choice; DROP INDEX jobs_by_killtime"
-FIRST_VERSION = (f"{INDEXES}; DROP TABLE floors; UPDATE meta SET version = 1; CREATE INDEX jobs_by_killtime ON jobs "
-                 "(phase, killtime); CREATE INDEX jobs_by_choice ON jobs (phase, priority, tts, job, next, killtime, dial, "
-                 "modem); CREATE TABLE calls (dial TEXT PRIMARY KEY NOT NULL, open INTEGER NOT NULL) STRICT")
+INDEXES = "DROP TABLE calls; DROP INDEX grants_by_job; DROP INDEX jobs_by_choice; DROP INDEX jobs_by_killtime"
+OLD_INDEXES = ("CREATE INDEX jobs_by_killtime ON jobs (phase, killtime); CREATE INDEX jobs_by_choice ON jobs (phase, priority, "
+               "tts, job, next, killtime, dial, modem); CREATE TABLE calls (dial TEXT PRIMARY KEY NOT NULL, open INTEGER NOT "
+               "NULL) STRICT")
+FIRST_VERSION = f"{INDEXES}; DROP TABLE times; DROP TABLE floors; UPDATE meta SET version = 1; {OLD_INDEXES}"
+SECOND_VERSION = f"{INDEXES}; DROP TABLE times; UPDATE meta SET version = 2; {OLD_INDEXES}"
 # Behind the first of these it gives its replies up.
 FLOORS = [CONVERSATION[0], ("floor", "desk", 5, "/numbers/floor", '{"upto":3}', 200, '{"floor":3}')]
 
@@ -223,6 +225,12 @@ def without_indexes(folder):
 def version_1(folder):
     """A start on a file of version 1 that was stopped leaves what the next one takes."""
     start(folder, "version-1", None, FIRST_VERSION)
+
+
+@check
+def version_2(folder):
+    """A start on a file of version 2 that was stopped leaves what the next one takes."""
+    start(folder, "version-2", None, SECOND_VERSION)
 
 
 @check

@@ -1,5 +1,5 @@
 //! Rattle, not Rust: checks/try-tests compiles and runs it without a proof, and rt doesn't read it.
-//! Works that come to nothing, and one that adds a job without knowing the next number.
+//! Works that come to nothing, and one that adds a job.
 use fax_job::{Dial, Job, JobFields, JobTag, Moment, Name, Phase, RequestNumber, Status, Wish};
 use fax_lines::read_lines;
 use fax_store::{Store, StoreFault};
@@ -90,10 +90,11 @@ fn first_job(alloc: Global) -> Result<Option<Job>, Fail> {
     }))
 }
 
-/// Adds a job, and commits.
+/// Adds a job that came in at moment 9, and commits.
 fn add<S: Alter>(store: &mut Store<S>, job: &Job) -> Result<(), StoreFault> {
+    let meta = store.meta()?;
     let mut work = store.begin()?;
-    work.put_job(job)?;
+    work.put_next_job(job, meta, Moment::new(9))?;
     work.commit()
 }
 

@@ -115,7 +115,8 @@ const INSERT_JOB: &str =
     next) VALUES (?1, ?2, 'any', '', '', '', ?3, 0, ?4, 0, 1, 0, 0, 3, 0, 0, 12, ?5, 0, ?6)";
 
 const HOLD_GRANTED: &str =
-    "INSERT INTO grants (id, job, modem, first_page, last_page, call, pages, shut) \
+    "INSERT INTO times (job, submitted, ended) SELECT job, 0, 0 FROM jobs; \
+    INSERT INTO grants (id, job, modem, first_page, last_page, call, pages, shut) \
         SELECT job, job, 'ttyS' || job, 1, 1, 0, 0, 0 FROM jobs WHERE phase = 2; \
     INSERT INTO holds (modem, job, id) SELECT modem, job, id FROM grants";
 
@@ -129,7 +130,7 @@ fn insert<S: Alter>(conn: &mut Connection<S>, number: u32, job: Stored) -> Resul
     Ok(())
 }
 
-/// Adds these jobs, numbered from 1 on, and grants and holds of those that are granted.
+/// Adds these jobs, numbered from 1 on, their times, and grants and holds of those that are granted.
 fn fill<S: Alter>(conn: &mut Connection<S>, jobs: &[Stored]) -> Result<(), Fail> {
     let mut number = 0_u32;
     for job in jobs {
