@@ -76,8 +76,8 @@ pub(crate) static PASSED: [Query; 8] = [
 pub struct Flaw {
     /// Its table.
     pub table: Table,
-    /// Its rowid: the number of a job or a grant, 1 in meta; in `times` that of a row that is missing, too. None where a
-    /// row of `calls` is missing.
+    /// Its rowid: the number of a job or a grant, also where a row of `times` is missing; 1 in meta; none where a row of
+    /// `calls` is missing.
     pub row: Option<i64>,
 }
 
