@@ -28,7 +28,7 @@ def filling(first, last):
                   f'{{"down":{"true" if number % 2 else "false"}}}') for number in range(first, last + 1)]
 
 
-FILL = 1451  # so many requests fill the log but for what a start writes, so that the next start copies it into the file
+FILL = 1450  # so many requests fill the log but for what a start writes, so that the next start copies it into the file
 AGAIN = "outcome, first", "outcome, later", "new-file"  # with --all the start on what these leave is swept too
 FEW = "kept", "lost", "lost-db", "sectors"  # without --all a full log, which is large, is left in these
 
