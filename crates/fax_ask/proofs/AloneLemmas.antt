@@ -22,12 +22,12 @@ use Rattle.fax_core.specs.declared.ask.JobAsk.TheVariants as asked
 use Rattle.fax_ask.specs.declared.request.Action.{Action}
 use Rattle.fax_ask.specs.declared.request.Action.TheVariants.{Suspend, Resume, Kill, Alter}
 use Rattle.fax_ask.specs.declared.request.Request.{Request}
-use Rattle.fax_ask.specs.declared.request.Request.TheVariants.{Show, Submit, Import, OnJob, Mark, Next, OnGrant, Floor}
+use Rattle.fax_ask.specs.declared.request.Request.TheVariants.{Show, Submit, Import, OnJob, Mark, Next, OnGrant, Floor, Purge}
 use Rattle.fax_ask.specs.declared.ask.Ask.{Ask}
 use Rattle.fax_ask.specs.declared.ask.Ask.TheVariants.{Step}
 use Rattle.fax_ask.specs.Ask.{States, HasFault, IsLinesFault, IsLinesRefusal, Asks, AsksOfJob, IsActionRefusal, IsBodyRefusal}
 use Rattle.fax_ask.specs.Laws.{OneAsk, OneFault, AskOrRefusal}
-use Rattle.fax_ask.specs.Report.{IsJson, IsReportFault, IsReportRefusal, Reports, report_in, upto_in}
+use Rattle.fax_ask.specs.Report.{IsJson, IsReportFault, IsReportRefusal, Reports, before_in, report_in, upto_in}
 use Rattle.fax_ask.specs.Request.{request_of}
 
 abbrev well : {T : Type 0} → T → Result T OrderFault
@@ -102,6 +102,7 @@ asks_alone (Mark modem down) body a b h g = h ∙ sym g
 asks_alone (Next modem) body a b h g = h ∙ sym g
 asks_alone (OnGrant grant kind) body a b h g = h.2 ∙ (ap (λ o. Step (machine.OnGrant grant o)) (reports_alone (report_in kind) body h.0 g.0 h.1 g.1) ∙ sym g.2)
 asks_alone Floor body a b h g = h.2 ∙ (ap (λ n. Step (machine.GiveUp n)) (reports_alone upto_in body h.0 g.0 h.1 g.1) ∙ sym g.2)
+asks_alone Purge body a b h g = h.2 ∙ (ap (λ n. Step (machine.Purge n)) (reports_alone before_in body h.0 g.0 h.1 g.1) ∙ sym g.2)
 
 -- what a client asks of a job is refused for want of memory alone
 job_or_refusal : (action : Action) (body : List ℕ) (a : JobAsk) (refusal : Refusal) → AsksOfJob action body a → IsActionRefusal action body refusal → refusal ≡ Unavailable
@@ -120,6 +121,7 @@ ask_or_refusal (Mark modem down) body a refusal h r = r
 ask_or_refusal (Next modem) body a refusal h r = r
 ask_or_refusal (OnGrant grant kind) body a refusal h r = reports_or_refusal (report_in kind) body h.0 refusal h.1 r
 ask_or_refusal Floor body a refusal h r = reports_or_refusal upto_in body h.0 refusal h.1 r
+ask_or_refusal Purge body a refusal h r = reports_or_refusal before_in body h.0 refusal h.1 r
 
 -- ---- the whole
 
@@ -195,6 +197,7 @@ fault_alone (Mark modem down) body f g h r = absurd cc
 fault_alone (Next modem) body f g h r = absurd cc
 fault_alone (OnGrant grant kind) body f g h r = one_report_fault (report_in kind) body f g h r
 fault_alone Floor body f g h r = one_report_fault upto_in body f g h r
+fault_alone Purge body f g h r = one_report_fault before_in body f g h r
 
 -- the same whether the path has a request or not
 fault_by : (o : Option Request) (body : List ℕ) (f g : BodyFault) → MatchOption o (BadBody f ≡ NoRoute) (λ request. IsBodyRefusal request body (BadBody f)) → MatchOption o (BadBody g ≡ NoRoute) (λ request. IsBodyRefusal request body (BadBody g)) → f ≡ g

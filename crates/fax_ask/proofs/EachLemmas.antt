@@ -22,11 +22,11 @@ use Rattle.fax_core.specs.declared.ask.JobAsk.{JobAsk}
 use Rattle.fax_core.specs.declared.ask.JobAsk.TheVariants as asked
 use Rattle.fax_ask.specs.declared.request.Action.{Action}
 use Rattle.fax_ask.specs.declared.request.Action.TheVariants.{Suspend, Resume, Kill, Alter}
-use Rattle.fax_ask.specs.declared.request.Request.TheVariants.{Show, Submit, Import, OnJob, Mark, Next, OnGrant, Floor}
+use Rattle.fax_ask.specs.declared.request.Request.TheVariants.{Show, Submit, Import, OnJob, Mark, Next, OnGrant, Floor, Purge}
 use Rattle.fax_ask.specs.declared.ask.Ask.TheVariants.{Step, View}
 use Rattle.fax_ask.specs.Ask.{AsksOfJob, IsActionRefusal, IsLinesRefusal, States}
 use Rattle.fax_ask.specs.Laws.{AsksOrHasFault}
-use Rattle.fax_ask.specs.Report.{IsJson, IsReportRefusal, Reports, report_in, upto_in}
+use Rattle.fax_ask.specs.Report.{IsJson, IsReportRefusal, Reports, before_in, report_in, upto_in}
 
 module _ {T : Type 0} (value_of : List Pair → Result T OrderFault) (body : List ℕ) where
   abbrev IsRead : Type 0
@@ -91,3 +91,4 @@ each_of body utf8 (Mark modem down) = inl (Step (machine.Mark modem down), refl)
 each_of body utf8 (Next modem) = inl (Step (machine.Next modem), refl)
 each_of body utf8 (OnGrant grant kind) = elim (says_or_fault (report_in kind) body utf8) [ inl x ↦ inl (Step (machine.OnGrant grant x.0), (x.0, x.1, refl)) | inr f ↦ inr f ]
 each_of body utf8 Floor = elim (says_or_fault upto_in body utf8) [ inl x ↦ inl (Step (machine.GiveUp x.0), (x.0, x.1, refl)) | inr f ↦ inr f ]
+each_of body utf8 Purge = elim (says_or_fault before_in body utf8) [ inl x ↦ inl (Step (machine.Purge x.0), (x.0, x.1, refl)) | inr f ↦ inr f ]

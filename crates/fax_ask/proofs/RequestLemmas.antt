@@ -19,7 +19,7 @@ use Rattle.fax_ask.specs.declared.method.Method.TheVariants.{Get, Post, Another}
 use Rattle.fax_ask.specs.declared.request.Action.TheVariants.{Suspend, Resume, Kill, Alter}
 use Rattle.fax_ask.specs.declared.request.ReportKind.TheVariants.{Call, Page, Outcome}
 use Rattle.fax_ask.specs.declared.request.Request.{Request}
-use Rattle.fax_ask.specs.declared.request.Request.TheVariants.{OnJob, Mark, Next, OnGrant, Floor, Show}
+use Rattle.fax_ask.specs.declared.request.Request.TheVariants.{OnJob, Mark, Next, OnGrant, Floor, Purge, Show}
 use Rattle.fax_ask.specs.Path.{parts, two_texts}
 use Rattle.fax_ask.specs.declared.view.View.TheVariants as view
 use Rattle.fax_ask.specs.Request.{job_request, job_times, jobs_request, modem_action, modem_request, modems_request, grant_report, grant_request, grants_request, imports_request, numbers_request, root_request, path_request, request_of, job_action}
@@ -100,12 +100,17 @@ in_times id word request (Some job) e is =
     by true f h = same_text word (codes "times") f refl
     by false f h = absurd cc
 
+-- nor has the word of a purge
+in_purge : (id : List ℕ) (request : Request) (named : Bool) → bytes_eq id (codes "purge") ≡ named → cond named (Some Purge) None ≡ Some request → has_byte 10 id ≡ false
+in_purge id request true e is = same_text id (codes "purge") e refl
+in_purge id request false e is = absurd cc
+
 -- nor have the texts from {id} on
 in_job : (method : Method) (id : List ℕ) (rest : List (List ℕ)) (request : Request) → job_request method id rest ≡ Some request → lacks_lf (id ∷ rest)
 in_job Get id [] request is = one_more id [] (in_view id request _ _ refl refl is) refl
 in_job Get id (word ∷ []) request is = in_times id word request (request_number_of id) refl is
 in_job Get id (word ∷ more ∷ rest) request is = absurd cc
-in_job Post id [] request is = absurd cc
+in_job Post id [] request is = one_more id [] (in_purge id request (bytes_eq id (codes "purge")) refl is) refl
 in_job Post id (action ∷ []) request is = in_posted id action request (request_number_of id) refl is
 in_job Post id (action ∷ more ∷ rest) request is = absurd cc
 in_job Another id rest request is = absurd cc

@@ -6,7 +6,7 @@ use Rattle.fax_job.specs.declared.order.OrderFault.TheVariants as order
 use Rattle.fax_job.specs.declared.refusal.BodyFault.{BodyFault}
 use Rattle.fax_job.specs.declared.refusal.BodyFault.TheVariants.{Line, Order, BadJson, BadField}
 use Rattle.fax_job.specs.declared.refusal.Refusal.{Refusal}
-use Rattle.fax_job.specs.declared.refusal.Refusal.TheVariants.{BadHttp, TooLarge, NoRoute, BadClient, BadNumber, BadBody, NumberReused, NoJob, NoModem, NoGrant, Rejected, TooManyPages, JobOver, JobActive, NotSuspended, LimitReached, ModemDown, ModemBusy, GrantClosed, CallKnown, NotConnected, PageOrder, CallMissing, PagesMismatch, PagesLeft, Full, Unavailable, GivenUp, FloorHigh}
+use Rattle.fax_job.specs.declared.refusal.Refusal.TheVariants.{BadHttp, TooLarge, NoRoute, BadClient, BadNumber, BadBody, NumberReused, NoJob, NoModem, NoGrant, Rejected, TooManyPages, JobOver, JobActive, NotSuspended, LimitReached, ModemDown, ModemBusy, GrantClosed, CallKnown, NotConnected, PageOrder, CallMissing, PagesMismatch, PagesLeft, Full, Unavailable, GivenUp, FloorHigh, PurgeHigh}
 use Rattle.fax_job.specs.Refusal.{body_word, line_word, order_word, refusal_status, refusal_word}
 use Rattle.fax_ask.specs.Detail.{has_detail}
 use Rattle.fax_ask.specs.Response.{IsAcceptedStatus, plain_body, refusal_bytes}
@@ -46,6 +46,7 @@ short_word Full = lit≤ tt
 short_word Unavailable = lit≤ tt
 short_word GivenUp = lit≤ tt
 short_word FloorHigh = lit≤ tt
+short_word PurgeHigh = lit≤ tt
 
 -- the words of faults of lines are short
 short_line_word : (kind : LineKind) → length (line_word kind) ≤ 16
@@ -142,3 +143,4 @@ refused_status Full = (lit≤ tt, lit< tt)
 refused_status Unavailable = (lit≤ tt, lit< tt)
 refused_status GivenUp = (lit≤ tt, lit< tt)
 refused_status FloorHigh = (lit≤ tt, lit< tt)
+refused_status PurgeHigh = (lit≤ tt, lit< tt)

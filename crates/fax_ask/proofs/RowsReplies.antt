@@ -5,8 +5,8 @@ use Rattle.json.specs.Print.{escape_byte}
 use Rattle.fax_job.specs.declared.lines.LineKind.TheVariants.{NoColon}
 use Rattle.fax_job.specs.declared.order.OrderFault.TheVariants.{NoPages}
 use Rattle.fax_job.specs.declared.refusal.BodyFault.TheVariants as body
-use Rattle.fax_job.specs.declared.refusal.Refusal.TheVariants.{NoRoute, BadBody, ModemBusy, PageOrder, Rejected}
-use Rattle.fax_core.specs.Reply.{Handed, Submitted, Brought, Stands, Given, Confirmed, Floored, NoKeys, Notice, HeldGrant, Pages}
+use Rattle.fax_job.specs.declared.refusal.Refusal.TheVariants.{NoRoute, BadBody, ModemBusy, PageOrder, PurgeHigh, Rejected}
+use Rattle.fax_core.specs.Reply.{Handed, Submitted, Brought, Stands, Given, Confirmed, Floored, Purged, NoKeys, Notice, HeldGrant, Pages}
 use Rattle.fax_ask.specs.Response.{reply_body, refused_body}
 
 -- a submission tells the job
@@ -23,6 +23,11 @@ stands = refl
 floored : reply_body (Floored 999999999999999999) ≡ codes "{\"floor\":999999999999999999}"
 unfolding digits escape_byte
 floored = refl
+
+-- a purge tells how many jobs left
+purged : reply_body (Purged 1000) ≡ codes "{\"purged\":1000}"
+unfolding digits escape_byte
+purged = refl
 
 -- an import tells the job and its state
 brought : reply_body (Brought 1 5) ≡ codes "{\"job\":1,\"state\":5}"
@@ -48,6 +53,11 @@ given = refl
 no_route : refused_body NoRoute NoKeys ≡ codes "{\"no\":3,\"word\":\"no-route\"}"
 unfolding digits escape_byte
 no_route = refl
+
+-- a purge before a moment that is yet to come
+purge_high : refused_body PurgeHigh NoKeys ≡ codes "{\"no\":30,\"word\":\"purge-high\"}"
+unfolding digits escape_byte
+purge_high = refl
 
 -- a fault of a line tells its line and kind
 no_colon : refused_body (BadBody (body.Line 2 NoColon)) NoKeys ≡ codes "{\"kind\":\"no-colon\",\"line\":2,\"no\":6,\"word\":\"bad-body\"}"

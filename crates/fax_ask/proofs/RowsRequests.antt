@@ -1,10 +1,11 @@
--- Worked rows: which method and path name which request.
+-- Worked rows: which method and path name which request, and which number is a moment.
 use Rattle.std.specs.Prelude.{◌≡◌, refl, codes, Some, None}
 use Rattle.fax_ask.specs.declared.method.Method.TheVariants.{Get, Post, Another}
 use Rattle.fax_ask.specs.declared.request.Action.TheVariants.{Kill, Alter}
 use Rattle.fax_ask.specs.declared.request.ReportKind.TheVariants.{Call}
-use Rattle.fax_ask.specs.declared.request.Request.TheVariants.{Submit, Import, OnJob, Show, Next, OnGrant, Floor}
+use Rattle.fax_ask.specs.declared.request.Request.TheVariants.{Submit, Import, OnJob, Show, Next, OnGrant, Floor, Purge}
 use Rattle.fax_ask.specs.declared.view.View.TheVariants as view
+use Rattle.fax_ask.specs.Report.{moment_of}
 use Rattle.fax_ask.specs.Request.{request_of}
 
 submit : request_of Post (codes "/jobs") ≡ Some Submit
@@ -22,6 +23,22 @@ no_floor_of_a_client = refl
 import : request_of Post (codes "/imports") ≡ Some Import
 unfolding request_of
 import = refl
+
+purge : request_of Post (codes "/jobs/purge") ≡ Some Purge
+unfolding request_of
+purge = refl
+
+no_view_of_a_purge : request_of Get (codes "/jobs/purge") ≡ None
+unfolding request_of
+no_view_of_a_purge = refl
+
+no_purge_of_a_job : request_of Post (codes "/jobs/1/purge") ≡ None
+unfolding request_of
+no_purge_of_a_job = refl
+
+nothing_of_a_job : request_of Post (codes "/jobs/1") ≡ None
+unfolding request_of
+nothing_of_a_job = refl
 
 kill : request_of Post (codes "/jobs/9/kill") ≡ Some (OnJob 9 Kill)
 unfolding request_of
@@ -120,3 +137,14 @@ slash_behind = refl
 with_a_query : request_of Post (codes "/jobs?x=1") ≡ None
 unfolding request_of
 with_a_query = refl
+
+-- ---- the moment of a purge
+
+first_moment : moment_of 0 ≡ Some 0
+first_moment = refl
+
+last_moment : moment_of 4102444800 ≡ Some 4102444800
+last_moment = refl
+
+past_the_last : moment_of 4102444801 ≡ None
+past_the_last = refl

@@ -2,7 +2,7 @@
 use Rattle.std.specs.Prelude.{ℕ, List}
 use Rattle.fax_core.specs.Reply as machine
 use Rattle.fax_ask.specs.declared.answer.Answer.{Answer}
-use Rattle.fax_ask.specs.declared.answer.Answer.TheVariants.{Submitted, Brought, Stands, Marked, NoneToSend, Given, Called, Confirmed, Floored, Lines, Listing}
+use Rattle.fax_ask.specs.declared.answer.Answer.TheVariants.{Submitted, Brought, Stands, Marked, NoneToSend, Given, Called, Confirmed, Floored, Purged, Lines, Listing}
 use Rattle.fax_ask.specs.declared.answer.Handed.{Handed}
 
 -- what a client is told: the machine's reply to a step, key lines, or a listing of jobs
@@ -18,6 +18,7 @@ abbrev pub told : Answer → Told
 told (Submitted job) = Replied (machine.Submitted job)
 told (Brought job state) = Replied (machine.Brought job state)
 told (Floored floor) = Replied (machine.Floored floor)
+told (Purged jobs) = Replied (machine.Purged jobs)
 told (Stands job state) = Replied (machine.Stands job state)
 told (Marked down) = Replied (machine.Marked down)
 told NoneToSend = Replied machine.NoneToSend

@@ -27,8 +27,8 @@ use Rattle.fax_ask.specs.declared.method.Method.{Method}
 use Rattle.fax_ask.specs.declared.request.Action.{Action}
 use Rattle.fax_ask.specs.declared.request.Action.TheVariants.{Suspend, Resume, Kill, Alter}
 use Rattle.fax_ask.specs.declared.request.Request.{Request}
-use Rattle.fax_ask.specs.declared.request.Request.TheVariants.{Show, Submit, Import, OnJob, Mark, Next, OnGrant, Floor}
-use Rattle.fax_ask.specs.Report.{IsReportRefusal, Reports, report_in, upto_in}
+use Rattle.fax_ask.specs.declared.request.Request.TheVariants.{Show, Submit, Import, OnJob, Mark, Next, OnGrant, Floor, Purge}
+use Rattle.fax_ask.specs.Report.{IsReportRefusal, Reports, before_in, report_in, upto_in}
 use Rattle.fax_ask.specs.Request.{request_of}
 
 -- ---- bodies
@@ -77,6 +77,7 @@ Asks (Mark modem down) body ask = ask ≡ Step (machine.Mark modem down)
 Asks (Next modem) body ask = ask ≡ Step (machine.Next modem)
 Asks (OnGrant grant kind) body ask = (report : Report) × Reports (report_in kind) body report × (ask ≡ Step (machine.OnGrant grant report))
 Asks Floor body ask = (upto : ℕ) × Reports upto_in body upto × (ask ≡ Step (machine.GiveUp upto))
+Asks Purge body ask = (before : ℕ) × Reports before_in body before × (ask ≡ Step (machine.Purge before))
 
 -- why an action with this body is refused
 abbrev pub IsActionRefusal : Action → List ℕ → Refusal → Type 0
@@ -94,6 +95,7 @@ IsBodyRefusal (Mark modem down) body refusal = refusal ≡ Unavailable
 IsBodyRefusal (Next modem) body refusal = refusal ≡ Unavailable
 IsBodyRefusal (OnGrant grant kind) body refusal = IsReportRefusal (report_in kind) body refusal
 IsBodyRefusal Floor body refusal = IsReportRefusal upto_in body refusal
+IsBodyRefusal Purge body refusal = IsReportRefusal before_in body refusal
 
 -- ---- the whole
 

@@ -1,4 +1,4 @@
--- What workers report, and what a client gives up, in JSON (RFC 8259).
+-- What workers report, what a client gives up, and which jobs are to be purged, in JSON (RFC 8259).
 use Rattle.std.specs.Prelude.{◌≡◌, ◌⊎◌, ⊤, ℕ, Bool, false, not, ◌&&◌, ◌==◌, List, [], ◌∷◌, length, codes, nat_le, Option, Some, None, option_and_then, if◌then◌else◌}
 use Rattle.std.specs.List.{list_all}
 use Rattle.std.specs.Option.{option_map}
@@ -8,7 +8,7 @@ use Rattle.serde_json.specs.Find.{as_bool, as_number, as_str, as_u64, get}
 use Rattle.serde_json.specs.Read.{read}
 use Rattle.fax_job.specs.declared.job.Call.{Call}
 use Rattle.fax_job.specs.declared.job.Call.TheVariants.{Connected, Busy, NoAnswer, NoCarrier, Other}
-use Rattle.fax_value.specs.Limits.{most_pages}
+use Rattle.fax_value.specs.Limits.{last_moment, most_pages}
 use Rattle.fax_value.specs.Number.{request_number}
 use Rattle.fax_value.specs.Value.{ends_with_backslash}
 use Rattle.fax_job.specs.declared.refusal.BodyFault.{BodyFault}
@@ -58,6 +58,13 @@ page_in json = option_and_then (within 1 most_pages) (number_at (codes "page") j
 
 unfoldable pub upto_in : Data → Option ℕ
 upto_in json = option_and_then request_number (number_at (codes "upto") json)
+
+-- a number of seconds that is a moment
+abbrev pub moment_of : ℕ → Option ℕ
+moment_of seconds = if nat_le seconds last_moment then Some seconds else None
+
+unfoldable pub before_in : Data → Option ℕ
+before_in json = option_and_then moment_of (number_at (codes "before") json)
 
 abbrev pub ending_named : List ℕ → Option Ending
 ending_named name =

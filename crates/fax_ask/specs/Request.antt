@@ -8,7 +8,7 @@ use Rattle.fax_ask.specs.declared.method.Method.TheVariants.{Get, Post, Another}
 use Rattle.fax_ask.specs.declared.request.Action.TheVariants.{Suspend, Resume, Kill, Alter}
 use Rattle.fax_ask.specs.declared.request.ReportKind.TheVariants.{Call, Page, Outcome}
 use Rattle.fax_ask.specs.declared.request.Request.{Request}
-use Rattle.fax_ask.specs.declared.request.Request.TheVariants.{Show, Submit, Import, OnJob, Mark, Next, OnGrant, Floor}
+use Rattle.fax_ask.specs.declared.request.Request.TheVariants.{Show, Submit, Import, OnJob, Mark, Next, OnGrant, Floor, Purge}
 use Rattle.fax_ask.specs.declared.view.View.{View}
 use Rattle.fax_ask.specs.declared.view.View.TheVariants as view
 use Rattle.fax_ask.specs.Path.{parts, two_texts}
@@ -30,10 +30,15 @@ job_view id = if bytes_eq id (codes "newest") then Some view.Newest else option_
 abbrev pub job_times : ℕ → List ℕ → Option Request
 job_times job word = if bytes_eq word (codes "times") then Some (Show (view.Times job)) else None
 
--- GET /jobs/{id}, and what stands below it
+-- POST /jobs/purge
+abbrev pub job_posted : List ℕ → Option Request
+job_posted id = if bytes_eq id (codes "purge") then Some Purge else None
+
+-- GET /jobs/{id}, POST /jobs/purge, and what stands below them
 abbrev pub job_request : Method → List ℕ → List (List ℕ) → Option Request
 job_request Get id [] = option_map Show (job_view id)
 job_request Get id (word ∷ []) = option_and_then (λ job. job_times job word) (request_number_of id)
+job_request Post id [] = job_posted id
 job_request Post id (action ∷ []) = option_and_then (λ job. job_action job action) (request_number_of id)
 job_request method id rest = None
 

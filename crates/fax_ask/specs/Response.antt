@@ -6,7 +6,7 @@ use Rattle.fax_job.specs.declared.refusal.BodyFault.{BodyFault}
 use Rattle.fax_job.specs.declared.refusal.Refusal.{Refusal}
 use Rattle.fax_job.specs.declared.refusal.Refusal.TheVariants.{BadBody}
 use Rattle.fax_job.specs.Refusal.{body_line, body_word, refusal_number, refusal_status, refusal_word}
-use Rattle.fax_core.specs.Reply.{Handed, Reply, Submitted, Brought, Stands, Marked, NoneToSend, Given, Called, Confirmed, Floored, Keys, NoKeys, Notice, HeldGrant, Pages}
+use Rattle.fax_core.specs.Reply.{Handed, Reply, Submitted, Brought, Stands, Marked, NoneToSend, Given, Called, Confirmed, Floored, Purged, Keys, NoKeys, Notice, HeldGrant, Pages}
 use Rattle.fax_ask.specs.Answer.{Told, Replied, Shown, Listed}
 
 -- a status (RFC 9110, section 15), whether the body is JSON (RFC 8259), and the body's bytes
@@ -35,6 +35,7 @@ reply_body (Given handed) = codes "{" ++ handed_keys handed ++ codes "}"
 reply_body (Called stop) = codes "{\"stop\":" ++ bool_text stop ++ codes "}"
 reply_body (Confirmed npages stop) = codes "{\"npages\":" ++ decimal npages ++ codes ",\"stop\":" ++ bool_text stop ++ codes "}"
 reply_body (Floored floor) = codes "{\"floor\":" ++ decimal floor ++ codes "}"
+reply_body (Purged jobs) = codes "{\"purged\":" ++ decimal jobs ++ codes "}"
 
 -- a submission makes a job, and so does an import
 abbrev pub reply_status : Reply → ℕ

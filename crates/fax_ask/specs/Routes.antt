@@ -15,7 +15,7 @@ use Rattle.fax_ask.specs.declared.routes.Route.{Route}
 use Rattle.fax_ask.specs.declared.routes.Route.TheVariants.{Jobs, Job, OnJob, Times, Modems, Mark, Next, OnGrant, Imports, Floor}
 use Rattle.fax_ask.specs.declared.routes.TheConstants.{ROUTES}
 use Rattle.fax_ask.specs.declared.view.View.TheVariants as view
-use Rattle.fax_ask.specs.Request.{job_view}
+use Rattle.fax_ask.specs.Request.{job_posted, job_view}
 
 -- the rows with the route that a pattern's text gives
 abbrev pub with_route : Result Scan InsertError → Route → RowsOf (RouteOf Route) → RowsOf (RouteOf Route)
@@ -44,7 +44,7 @@ modem_in id = option_and_then (λ text. if is_name text then Some text else None
 -- what is posted on a route with this text in its parameter's place
 abbrev pub posted : Route → Option (List ℕ) → Option Request
 posted Jobs id = Some request.Submit
-posted Job id = None
+posted Job id = option_and_then job_posted id
 posted Times id = None
 posted Modems id = None
 posted Imports id = Some request.Import

@@ -22,6 +22,8 @@ pub enum Answer<'a> {
     Brought { job: u32, state: u8 },
     /// Through which number a client has given up its replies.
     Floored { floor: u64 },
+    /// How many jobs a purge took out.
+    Purged { jobs: u16 },
     /// The state of a job, from 1 to 8 (sendq(5)).
     Stands { job: u32, state: u8 },
     /// Whether a modem is down.

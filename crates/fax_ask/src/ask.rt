@@ -8,7 +8,7 @@ ghost use Rattle.fax_core.specs.Ask.{HasCounts, HasLimits as HasOrderLimits};
 ghost use Rattle.fax_ask.specs.Ask.{Asks, AsksOfJob, HasLimits, States, IsActionRefusal, IsAsk, IsBodyRefusal, IsLawful, IsLawfulOn, IsLinesRefusal, IsRefused};
 
 use crate::method::Method;
-use crate::report::{read_report, read_upto};
+use crate::report::{read_before, read_report, read_upto};
 use crate::request::{Action, Request};
 use crate::routes::Routes;
 use crate::view::View;
@@ -81,6 +81,9 @@ fn read_body(alloc: Global, request: Request<'_>, body: &[u8]) -> Result<Ask, Re
         },
         Request::Floor => Step::GiveUp {
             upto: read_upto(alloc, body)?,
+        },
+        Request::Purge => Step::Purge {
+            before: read_before(alloc, body)?,
         },
     };
     Ok(Ask::Step(step))

@@ -14,7 +14,8 @@ use crate::answer::Answer;
 use crate::detail::Detail;
 use crate::spelling::{
     ShortText, called_text, confirmed_text, fault_text, floored_text, given_text, held_text,
-    marked_text, page_order_text, refusal_text, rejected_text, stands_text, submitted_text,
+    marked_text, page_order_text, purged_text, refusal_text, rejected_text, stands_text,
+    submitted_text,
 };
 use fax_job::Refusal;
 use http::StatusCode;
@@ -169,6 +170,7 @@ fn accepted_body(alloc: Global, answer: &Answer<'_>) -> Result<Body, AllocError>
         Answer::Called { stop } => called_text(alloc, *stop)?,
         Answer::Confirmed { npages, stop } => confirmed_text(alloc, *npages, *stop)?,
         Answer::Floored { floor } => floored_text(alloc, *floor)?,
+        Answer::Purged { jobs } => purged_text(alloc, *jobs)?,
         Answer::Lines(bytes) | Answer::Listing(bytes) => {
             return Ok(Body::Text(Vec::from_slice(alloc, bytes)?));
         }

@@ -1,10 +1,10 @@
-//! What workers report, and what a client gives up, from the JSON (RFC 8259) of a body.
+//! What workers report, what a client gives up, and which jobs are to be purged, from the JSON (RFC 8259) of a body.
 
 ghost use Rattle.std.specs.Prelude.{◌≡◌, ◌≤◌, IfOk, IfErr, IfSome};
 ghost use Rattle.fax_value.specs.Value.{IsStatus};
 ghost use Rattle.std.specs.List.{list_all};
 ghost use Rattle.std.specs.Option.{option_copied, option_map};
-ghost use Rattle.fax_ask.specs.Report.{IsJson, IsJsonRefusal, IsReportRefusal, Reports, begins_with_space, bool_at, call_in, call_named, ending_named, is_reason, is_reason_byte, number_at, outcome_in, outcome_read, page_in, reason_at, reason_of, report_in, text_at, upto_in, within};
+ghost use Rattle.fax_ask.specs.Report.{IsJson, IsJsonRefusal, IsReportRefusal, Reports, before_in, begins_with_space, bool_at, call_in, call_named, ending_named, is_reason, is_reason_byte, moment_of, number_at, outcome_in, outcome_read, page_in, reason_at, reason_of, report_in, text_at, upto_in, within};
 ghost use Rattle.fax_job.specs.declared.refusal.Refusal.TheVariants.{Unavailable};
 ghost use Rattle.serde_json.specs.Errors.{IsMemory};
 ghost use Rattle.serde_json.specs.Find.{get};
@@ -12,8 +12,8 @@ ghost use Rattle.serde_json.specs.View.{view};
 
 use crate::request::ReportKind;
 use fax_core::{Ending, Outcome, Report};
-use fax_job::limits::MOST_PAGES;
-use fax_job::{BodyFault, Call, Refusal, RequestNumber, Status, ends_with_backslash};
+use fax_job::limits::{LAST_MOMENT, MOST_PAGES};
+use fax_job::{BodyFault, Call, Moment, Refusal, RequestNumber, Status, ends_with_backslash};
 use serde_json::{Error, Value};
 use std::alloc::{AllocError, Global};
 
@@ -56,6 +56,19 @@ pub(crate) fn read_upto(alloc: Global, body: &[u8]) -> Result<RequestNumber, Ref
     let json = read_json(alloc, body)?;
     match upto_in(&json) {
         Some(upto) => Ok(upto),
+        None => Err(BAD_FIELD),
+    }
+}
+
+/// The moment before which jobs that are to be purged ended, by a body.
+#[tactic(auto, using(crate::proofs::ReportLemmas::json_refused))]
+pub(crate) fn read_before(alloc: Global, body: &[u8]) -> Result<Moment, Refusal>
+    ensures before { IfOk result (Reports before_in body.now) }
+    ensures refused { IfErr result (IsReportRefusal before_in body.now) }
+{
+    let json = read_json(alloc, body)?;
+    match before_in(&json) {
+        Some(before) => Ok(before),
         None => Err(BAD_FIELD),
     }
 }
@@ -147,6 +160,24 @@ fn upto_in(json: &Value) -> Option<RequestNumber>
     ensures { result ≡ upto_in (view json.now) }
 {
     RequestNumber::new(number_at(json, "upto")?)
+}
+
+#[tactic(auto, unfolding(crate::specs::Report::before_in))]
+fn before_in(json: &Value) -> Option<Moment>
+    ensures { result ≡ before_in (view json.now) }
+{
+    moment(number_at(json, "before")?)
+}
+
+/// The moment of that many seconds, if there is one.
+fn moment(seconds: u64) -> Option<Moment>
+    ensures { result ≡ moment_of seconds }
+{
+    if seconds <= u64::from(LAST_MOMENT) {
+        Some(Moment::new(seconds))
+    } else {
+        None
+    }
 }
 
 fn ending_named(name: &str) -> Option<Ending>

@@ -1,7 +1,7 @@
 //! What may be asked for, by the route of a path.
 
 ghost use Rattle.std.specs.Prelude.{◌≡◌, option_copied};
-ghost use Rattle.fax_ask.specs.Request.{job_view};
+ghost use Rattle.fax_ask.specs.Request.{job_posted, job_view};
 ghost use Rattle.fax_ask.specs.Routes.{modem_in, number_in, posted, route_request, shown};
 
 use crate::method::Method;
@@ -21,6 +21,7 @@ pub enum Request<'a> {
     Next { modem: ModemName<'a> },
     OnGrant { grant: u64, kind: ReportKind },
     Floor,
+    Purge,
 }
 
 /// What a path asks of a job.
@@ -79,13 +80,25 @@ fn job_view(id: &str) -> Option<View>
     })
 }
 
+/// What POST names at `/jobs/{id}`: a purge.
+fn job_posted(id: &str) -> Option<Request<'static>>
+    ensures { result ≡ job_posted id.now }
+{
+    if id == "purge" {
+        Some(Request::Purge)
+    } else {
+        None
+    }
+}
+
 /// What POST names on a route.
 fn posted(route: Route, id: Option<&str>) -> Option<Request<'_>>
     ensures { result ≡ posted route (option_copied id.entry) }
 {
     match route {
         Route::Jobs => Some(Request::Submit),
-        Route::Job | Route::Times | Route::Modems => None,
+        Route::Job => job_posted(id?),
+        Route::Times | Route::Modems => None,
         Route::Imports => Some(Request::Import),
         Route::OnJob(action) => Some(Request::OnJob {
             job: number(id)?,

@@ -3,7 +3,7 @@
 ghost use Rattle.std.specs.Prelude.{◌≡◌, ◌≤◌, IfOk, length, string_bytes};
 ghost use Rattle.fax_ask.specs.Answer.{grant_told};
 ghost use Rattle.fax_ask.specs.Response.{bool_text, fault_bytes, handed_keys, line_key as line_key_bytes, refusal_bytes, refused_body, reply_body};
-ghost use Rattle.fax_core.specs.Reply.{Called, Confirmed, Floored, Given, HeldGrant, Marked, Notice, Pages, Stands, Submitted};
+ghost use Rattle.fax_core.specs.Reply.{Called, Confirmed, Floored, Given, HeldGrant, Marked, Notice, Pages, Purged, Stands, Submitted};
 ghost use Rattle.fax_job.specs.declared.refusal.Refusal.TheVariants.{ModemBusy, PageOrder, Rejected};
 ghost use Rattle.json.specs.Print.{quoted};
 
@@ -64,6 +64,12 @@ pub(crate) fn floored_text(alloc: Global, floor: u64) -> Result<String, AllocErr
     ensures { IfOk result (λ text. string_bytes text ≡ reply_body (Floored floor)) }
 {
     format!(in alloc; "{{\"floor\":{floor}}}")
+}
+
+pub(crate) fn purged_text(alloc: Global, jobs: u16) -> Result<String, AllocError>
+    ensures { IfOk result (λ text. string_bytes text ≡ reply_body (Purged jobs)) }
+{
+    format!(in alloc; "{{\"purged\":{jobs}}}")
 }
 
 // ---- refused requests

@@ -28,7 +28,7 @@ pub record Came (i : Import) (n : Queue) (number : ℕ) : Type 0 where
   pub npages : length job.sent ≡ i.npages
 
 -- a new job with the next number is found by it
-new_there : (m : Queue) (j : Job) → Sound m → j.number ≡ m.next_job → IsJob (with_new_job j m) j.number j
+pub new_there : (m : Queue) (j : Job) → Sound m → j.number ≡ m.next_job → IsJob (with_new_job j m) j.number j
 new_there m j h number =
     comes (λ (k : Job). eqb k.number j.number) m.jobs j (absent (λ (k : Job). k.number) 0 m.next_job j.number m.jobs h.jobs (omega (arith, number))) (eq-eqb j.number j.number refl)
 
@@ -68,5 +68,5 @@ not_granted s m n t i job state rs u modem l h sound counts lawful taken given s
     let kept : KeepsSent n (aged u (queue_after s n rs)) = through n (queue_after s n rs) (aged u (queue_after s n rs)) (run_keeps s n rs after lawful) (aged_keeps u (queue_after s n rs)) in
     let next = step_gives s (queue_after s n rs) l u modem h end given in
     let there : IsJob (aged u (queue_after s n rs)) job next.job = subst (λ (a : ℕ). IsJob (aged u (queue_after s n rs)) a next.job) same next.was_there in
-    let more = sent_before (aged u (queue_after s n rs)) job c.job.sent next.job (kept job c.job c.there) there in
+    let more = sent_before (aged u (queue_after s n rs)) job c.job.sent next.job (kept.sent job c.job c.there) there in
     omega (arith, next.first, c.npages)

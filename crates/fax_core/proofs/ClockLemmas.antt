@@ -1,12 +1,12 @@
 -- A taken step sets the clock to its moment, and the clock never goes back.
 use Rattle.std.proofs.Common.{◌≡◌, ℕ, ◌≤◌, Bool, true, false, cond, not, List, [], ◌∷◌, refl, sym, ap, ◌∙◌, arith}
-use Rattle.std.specs.Prelude.{Option, Some, None, Result, Ok, Err, max}
+use Rattle.std.specs.Prelude.{Option, Some, None, Result, Ok, Err, length, max, nat_lt}
 use Rattle.fax_job.specs.declared.refusal.Refusal.{Refusal}
 use Rattle.fax_job.specs.declared.refusal.Refusal.TheVariants as refusal
 use Rattle.fax_core.specs.declared.grants.Grant.{Grant}
 use Rattle.fax_core.specs.Ageing.{aged}
 use Rattle.fax_core.specs.declared.ask.Ask.{Ask}
-use Rattle.fax_core.specs.declared.ask.Ask.TheVariants.{Submission, Bring, OnJob, Mark, Next, OnGrant, GiveUp}
+use Rattle.fax_core.specs.declared.ask.Ask.TheVariants.{Submission, Bring, OnJob, Mark, Next, OnGrant, GiveUp, Purge}
 use Rattle.fax_core.specs.declared.ask.JobAsk.{JobAsk}
 use Rattle.fax_core.specs.declared.report.Report.{Report}
 use Rattle.fax_core.specs.Best.{best}
@@ -14,8 +14,9 @@ use Rattle.fax_core.specs.Decisions.{JobAndGrant, submit, job_asked, grant, gran
 use Rattle.fax_core.specs.Import.{bring}
 use Rattle.fax_core.specs.Job.{Job}
 use Rattle.fax_core.specs.Machine.{with_mark, is_down, held_by, submitted, brought_in, changed, on_job, reported, on_both, on_grant, given, given_best, given_free, report_reply, act, step}
+use Rattle.fax_core.specs.Purge.{leaving, without_jobs}
 use Rattle.fax_core.specs.Queue.{Queue, job_numbered, grant_numbered}
-use Rattle.fax_core.specs.Reply.{Reply, Marked, NoKeys, Step, Taken, Refused}
+use Rattle.fax_core.specs.Reply.{Reply, Marked, NoKeys, Purged, Step, Taken, Refused}
 use Rattle.fax_core.specs.Run.{Request, left_by, decided, queue_after}
 use Rattle.fax_core.specs.Settings.{Rule, Settings, has_modem}
 use Rattle.fax_core.proofs.TimesLemmas.{by_stamp}
@@ -87,6 +88,11 @@ next_clock s m t modem true c = refl
 next_clock s m t modem false true = refl
 next_clock s m t modem false false = free_clock s m t modem (held_by modem m)
 
+-- and a purge
+purge_clock : (m : Queue) (before : ℕ) (b : Bool) → clock_left m (cond b (Refused refusal.PurgeHigh NoKeys) (Taken (without_jobs (leaving before m) m) (Purged (length (leaving before m))))) ≡ m.clock
+purge_clock m before true = refl
+purge_clock m before false = refl
+
 -- so each request leaves it
 act_clock : (s : Settings) (m : Queue) (t : ℕ) (ask : Ask) → clock_left m (act s m t ask) ≡ m.clock
 act_clock s m t (Submission o) = submitted_clock m (s.rule o.dial) (submit o (s.rule o.dial) m.next_job s.max_jobs t)
@@ -96,6 +102,7 @@ act_clock s m t (Mark modem down) = mark_clock m modem down (has_modem s modem)
 act_clock s m t (Next modem) = next_clock s m t modem (not (has_modem s modem)) (is_down modem m)
 act_clock s m t (OnGrant n report) = on_grant_clock s m t report (grant_numbered n m)
 act_clock s m t (GiveUp floor) = refl
+act_clock s m t (Purge before) = purge_clock m before (nat_lt t before)
 
 -- a step that is taken sets the clock to its moment
 pub step_clock : (s : Settings) (m n : Queue) (t : ℕ) (ask : Ask) (r : Reply) → step s m t ask ≡ Taken n r → n.clock ≡ t

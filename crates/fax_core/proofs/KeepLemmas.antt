@@ -10,14 +10,13 @@ use Rattle.fax_core.specs.Machine.{with_job, with_both, with_new_job, with_new_g
 use Rattle.fax_core.specs.Queue.{Queue, job_numbered, grant_numbered}
 use Rattle.fax_core.specs.Sound.{AscendBetween, Fits, FitsFree, FitsGrant, IsJob, IsOpen, Sound}
 use Rattle.fax_core.specs.Stamp.{stamp}
-use Rattle.fax_core.specs.Times.{has_ended}
-use Rattle.fax_core.proofs.TimesLemmas.{Follows, all_found, follows_mapped, follows_more, follows_same, stamp_timed}
+use Rattle.fax_core.specs.Times.{AreTimed, has_ended}
+use Rattle.fax_core.proofs.TimesLemmas.{Follows, all_found, follows_mapped, follows_more, follows_same, stays_timed}
 use Rattle.fax_core.proofs.PlaceLemmas.{find_map, mapped, ascend_few, ascend_mapped, ascend_more, absent, stays, comes, either, in_place, in_place_number, number_found, placed_here, placed_other, placed}
 
--- what a change keeps besides the times
+-- what a change keeps, where the times of the jobs follow it
 pub record Kept (from m : Queue) : Type 0 where
-  pub follows : Follows from.jobs m.jobs
-  pub times : m.times ≡ from.times
+  pub timed : (t : ℕ) → AreTimed from.jobs from.times → AreTimed m.jobs (stamp t from m).times
   pub jobs : AscendBetween 0 (map (λ j. j.number) m.jobs) m.next_job
   pub grants : AscendBetween 0 (map (λ g. g.number) m.grants) m.next_grant
   pub one_to_a_modem : (a b : ℕ) (g h : Grant) → IsOpen m a g → IsOpen m b h → g.modem ≡ h.modem → a ≡ b
@@ -26,7 +25,7 @@ pub record Kept (from m : Queue) : Type 0 where
   pub free : (n : ℕ) (j : Job) → IsJob m n j → ((a : ℕ) (g : Grant) → IsOpen m a g → g.job ≢ n) → Fits j None
 
 pub kept_of : (m : Queue) → Sound m → Kept m m
-kept_of m h = record { follows = follows_same m.jobs; times = refl; jobs = h.jobs; grants = h.grants; one_to_a_modem = h.one_to_a_modem; one_of_a_job = h.one_of_a_job; held = h.held; free = h.free }
+kept_of m h = record { timed = stays_timed m m h.jobs h.jobs (follows_same m.jobs) refl; jobs = h.jobs; grants = h.grants; one_to_a_modem = h.one_to_a_modem; one_of_a_job = h.one_of_a_job; held = h.held; free = h.free }
 
 -- with the times of its jobs the queue is sound
 pub stamp_sound : (t : ℕ) (m n : Queue) → Sound m → Kept m n → Sound (stamp t m n)
@@ -36,14 +35,14 @@ stamp_sound t m n old h = record {
   one_to_a_modem = h.one_to_a_modem;
   one_of_a_job = h.one_of_a_job;
   held = h.held;
-  timed = stamp_timed t m n (all_found m old.jobs) (all_found n h.jobs) h.follows h.times old.timed;
+  timed = h.timed t old.timed;
   free = h.free;
 }
 
-abbrev job_number : Job → ℕ
+abbrev pub job_number : Job → ℕ
 job_number j = j.number
 
-abbrev grant_number : Grant → ℕ
+abbrev pub grant_number : Grant → ℕ
 grant_number g = g.number
 
 -- a number has one job
@@ -83,8 +82,7 @@ pub keeps_mapped : (m : Queue) (f : Job → Job) (t : ℕ) → ((j : Job) → (f
     → ((n : ℕ) (j : Job) → IsJob m n j → has_ended (f j).phase ≡ false → has_ended j.phase ≡ false)
     → Sound m → Kept m (record m { jobs = map f m.jobs; clock = t })
 keeps_mapped m f t same free held over h = record {
-  follows = follows_mapped m f same over m.jobs (all_found m h.jobs);
-  times = refl;
+  timed = stays_timed m (record m { jobs = map f m.jobs; clock = t }) h.jobs (ascend_mapped job_number f same 0 m.next_job m.jobs h.jobs) (follows_mapped m f same over m.jobs (all_found m h.jobs)) refl;
   jobs = ascend_mapped job_number f same 0 m.next_job m.jobs h.jobs;
   grants = h.grants;
   one_to_a_modem = h.one_to_a_modem;
@@ -219,12 +217,15 @@ module _ (m : Queue) (n : ℕ) (j : Job) (g : Grant) (b : JobAndGrant) (is : IsO
   not_over : has_ended j.phase ≡ false
   not_over = let old = h.held n g is in subst (λ (k : Job). has_ended k.phase ≡ false) (same_job m g.job old.0 j old.1 of) (ap has_ended old.2.phase)
 
+  -- the jobs stand in order
+  placed_jobs : AscendBetween 0 (map job_number (with_job b.job m).jobs) m.next_job
+  placed_jobs = ascend_mapped job_number (in_place job_number b.job) (in_place_number job_number b.job) 0 m.next_job m.jobs h.jobs
+
   -- the queue stays sound with job and grant as the report leaves them
   pub keeps_both : Kept m (with_both b m)
   keeps_both = record {
-    follows = follows_placed m g.job j b.job of job_at (λ q. not_over) h;
-    times = refl;
-    jobs = ascend_mapped job_number (in_place job_number b.job) (in_place_number job_number b.job) 0 m.next_job m.jobs h.jobs;
+    timed = stays_timed m (with_both b m) h.jobs placed_jobs (follows_placed m g.job j b.job of job_at (λ q. not_over) h) refl;
+    jobs = placed_jobs;
     grants = ascend_mapped grant_number (in_place grant_number b.grant) (in_place_number grant_number b.grant) 0 m.next_grant m.grants h.grants;
     one_to_a_modem = λ a c x y o p e. let u = was a x o in let v = was c y p in h.one_to_a_modem a c u.before v.before u.open' v.open' (sym u.modem ∙ e ∙ v.modem);
     one_of_a_job = λ a c x y o p e. let u = was a x o in let v = was c y p in h.one_of_a_job a c u.before v.before u.open' v.open' (sym u.job ∙ e ∙ v.job);
@@ -239,8 +240,7 @@ pub keeps_new_job : (m : Queue) (j : Job) → j.number ≡ m.next_job → FitsFr
 keeps_new_job m j same fits h =
     let none : job_numbered m.next_job m ≡ None = absent job_number 0 m.next_job m.next_job m.jobs h.jobs (omega arith) in
     record {
-      follows = follows_more m.jobs j;
-      times = refl;
+      timed = stays_timed m (with_new_job j m) h.jobs (ascend_more job_number 0 m.next_job m.jobs j h.jobs same) (follows_more m.jobs j) refl;
       jobs = ascend_more job_number 0 m.next_job m.jobs j h.jobs same;
       grants = h.grants;
       one_to_a_modem = h.one_to_a_modem;
@@ -312,12 +312,15 @@ module _ (m : Queue) (n : ℕ) (j : Job) (b : JobAndGrant) (r : Grants m n j b) 
   free_of_new a x y e alone (inr c) =
       subst FitsFree (sym c.1) (h.free a y e (λ i z o q. alone i z (stays (λ (g : Grant). eqb g.number i) m.grants b.grant z o.0, o.1) q))
 
+  -- the jobs stand in order
+  granted_jobs : AscendBetween 0 (map job_number (with_job b.job m).jobs) m.next_job
+  granted_jobs = ascend_mapped job_number (in_place job_number b.job) (in_place_number job_number b.job) 0 m.next_job m.jobs h.jobs
+
   -- the queue stays sound with the new grant
   pub keeps_new_grant : Kept m (with_new_grant b m)
   keeps_new_grant = record {
-    follows = follows_placed m n j b.job r.of r.number (λ q. r.not_over) h;
-    times = refl;
-    jobs = ascend_mapped job_number (in_place job_number b.job) (in_place_number job_number b.job) 0 m.next_job m.jobs h.jobs;
+    timed = stays_timed m (with_new_grant b m) h.jobs granted_jobs (follows_placed m n j b.job r.of r.number (λ q. r.not_over) h) refl;
+    jobs = granted_jobs;
     grants = ascend_more grant_number 0 m.next_grant m.grants b.grant h.grants r.grant_number;
     one_to_a_modem = λ a c x y o p e. modem_by a c x y e (new_or_old a x o) (new_or_old c y p);
     one_of_a_job = λ a c x y o p e. job_by a c x y e (new_or_old a x o) (new_or_old c y p);

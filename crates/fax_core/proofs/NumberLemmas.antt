@@ -1,5 +1,5 @@
 -- A step gives a job or a grant the next number, and no step lowers a next number.
-use Rattle.std.proofs.Common.{◌≡◌, ℕ, ◌≤◌, Bool, true, false, cond, not, List, [], ◌∷◌, refl, sym, ap, subst, arith, nat_lt, is_some}
+use Rattle.std.proofs.Common.{◌≡◌, ℕ, ◌≤◌, Bool, true, false, cond, not, List, [], ◌∷◌, length, refl, sym, ap, subst, arith, nat_lt, is_some}
 use Rattle.std.specs.Prelude.{⊤, Option, Some, None, Result, Ok, Err}
 use Rattle.fax_job.specs.declared.order.Order.{Order}
 use Rattle.fax_job.specs.declared.refusal.Refusal.{Refusal}
@@ -7,7 +7,7 @@ use Rattle.fax_job.specs.declared.refusal.Refusal.TheVariants as refusal
 use Rattle.fax_core.specs.declared.grants.Grant.{Grant}
 use Rattle.fax_core.specs.Ageing.{aged}
 use Rattle.fax_core.specs.declared.ask.Ask.{Ask}
-use Rattle.fax_core.specs.declared.ask.Ask.TheVariants.{Submission, Bring, OnJob, Mark, Next, OnGrant, GiveUp}
+use Rattle.fax_core.specs.declared.ask.Ask.TheVariants.{Submission, Bring, OnJob, Mark, Next, OnGrant, GiveUp, Purge}
 use Rattle.fax_core.specs.declared.ask.JobAsk.{JobAsk}
 use Rattle.fax_core.specs.declared.report.Report.{Report}
 use Rattle.fax_core.specs.declared.report.Report.TheVariants.{Call, Page, Outcome}
@@ -17,8 +17,9 @@ use Rattle.fax_core.specs.Import.{bring}
 use Rattle.fax_core.specs.Job.{Job}
 use Rattle.fax_core.specs.Laws.{NumbersAfter}
 use Rattle.fax_core.specs.Machine.{with_mark, is_down, held_by, submitted, brought_in, changed, on_job, reported, on_both, on_grant, given, given_best, given_free, report_reply, act, stamped, step}
+use Rattle.fax_core.specs.Purge.{leaving, without_jobs}
 use Rattle.fax_core.specs.Queue.{Queue, job_numbered, grant_numbered}
-use Rattle.fax_core.specs.Reply.{Reply, Submitted, Brought, Given, Stands, Marked, NoneToSend, Called, Confirmed, Floored, NoKeys, Step, Taken, Refused}
+use Rattle.fax_core.specs.Reply.{Reply, Submitted, Brought, Given, Stands, Marked, NoneToSend, Called, Confirmed, Floored, Purged, NoKeys, Step, Taken, Refused}
 use Rattle.fax_core.specs.Run.{Request, left_by, decided, queue_after}
 use Rattle.fax_core.specs.Settings.{Rule, Settings, has_modem}
 use Rattle.fax_core.specs.Clock.{decided_at}
@@ -32,7 +33,7 @@ Numbers m (Taken n r) = NumbersAfter m n r
 Numbers m (Refused e k) = ⊤
 
 -- a submitted job has the next number
-submit_numbers : (o : Order) (rule : Rule) (n max t : ℕ) (j : Job) → submit o rule n max t ≡ Ok j → j.number ≡ n
+pub submit_numbers : (o : Order) (rule : Rule) (n max t : ℕ) (j : Job) → submit o rule n max t ≡ Ok j → j.number ≡ n
 submit_numbers o rule n max t j e =
     let a = not_refused (is_some rule.notice) refusal.Rejected _ j e in
     let b = not_refused (is_over o.totpages rule.pages) refusal.TooManyPages _ j a.1 in
@@ -107,6 +108,11 @@ next_numbers s m t modem true c = tt
 next_numbers s m t modem false true = tt
 next_numbers s m t modem false false = free_numbers s m t modem (held_by modem m)
 
+-- and a purge
+purge_numbers : (m : Queue) (before : ℕ) (b : Bool) → Numbers m (cond b (Refused refusal.PurgeHigh NoKeys) (Taken (without_jobs (leaving before m) m) (Purged (length (leaving before m)))))
+purge_numbers m before true = tt
+purge_numbers m before false = (refl, refl)
+
 -- so does each request
 act_numbers : (s : Settings) (m : Queue) (t : ℕ) (ask : Ask) → Numbers m (act s m t ask)
 act_numbers s m t (Submission o) =
@@ -118,6 +124,7 @@ act_numbers s m t (Mark modem down) = mark_numbers m modem down (has_modem s mod
 act_numbers s m t (Next modem) = next_numbers s m t modem (not (has_modem s modem)) (is_down modem m)
 act_numbers s m t (OnGrant n report) = on_grant_numbers s m t report (grant_numbered n m)
 act_numbers s m t (GiveUp floor) = (refl, refl)
+act_numbers s m t (Purge before) = purge_numbers m before (nat_lt t before)
 
 -- the times of jobs are no numbers
 stamp_numbers : (t : ℕ) (m q n : Queue) (r : Reply) → NumbersAfter m n r → NumbersAfter m (stamp t q n) r
@@ -130,6 +137,7 @@ stamp_numbers t m q n NoneToSend h = h
 stamp_numbers t m q n (Called stop) h = h
 stamp_numbers t m q n (Confirmed npages stop) h = h
 stamp_numbers t m q n (Floored floor) h = h
+stamp_numbers t m q n (Purged jobs) h = h
 
 stamped_numbers : (t : ℕ) (m q : Queue) (d : Step) → Numbers m d → Numbers m (stamped t q d)
 stamped_numbers t m q (Taken n r) h = stamp_numbers t m q n r h
@@ -150,17 +158,21 @@ never_lower m n NoneToSend h = (omega (arith, h.0), omega (arith, h.1))
 never_lower m n (Called stop) h = (omega (arith, h.0), omega (arith, h.1))
 never_lower m n (Confirmed npages stop) h = (omega (arith, h.0), omega (arith, h.1))
 never_lower m n (Floored floor) h = (omega (arith, h.0), omega (arith, h.1))
+never_lower m n (Purged jobs) h = (omega (arith, h.0), omega (arith, h.1))
 
 -- nor does a step, whether it is taken or refused
 left_no_lower : (m : Queue) (x : Step) → Numbers m x → (m.next_job ≤ (left_by m x).next_job) × (m.next_grant ≤ (left_by m x).next_grant)
 left_no_lower m (Taken n r) h = never_lower m n r h
 left_no_lower m (Refused e k) h = (omega arith, omega arith)
 
+-- so a step lowers none
+pub left_numbers : (s : Settings) (m : Queue) (t : ℕ) (ask : Ask) → (m.next_job ≤ (left_by m (step s m t ask)).next_job) × (m.next_grant ≤ (left_by m (step s m t ask)).next_grant)
+left_numbers s m t ask = left_no_lower m (step s m t ask) (stamped_numbers t m (aged t m) (act s (aged t m) t ask) (act_numbers s (aged t m) t ask))
+
 -- nor does a run
 pub run_numbers : (s : Settings) (m : Queue) (rs : List Request) → (m.next_job ≤ (queue_after s m rs).next_job) × (m.next_grant ≤ (queue_after s m rs).next_grant)
 run_numbers s m [] = (omega arith, omega arith)
 run_numbers s m (r ∷ rs) =
-    let t = decided_at m.clock r.moment in
-    let here = left_no_lower m (decided s m r) (stamped_numbers t m (aged t m) (act s (aged t m) t r.ask) (act_numbers s (aged t m) t r.ask)) in
+    let here = left_numbers s m (decided_at m.clock r.moment) r.ask in
     let rest = run_numbers s (left_by m (decided s m r)) rs in
     (omega (arith, here.0, rest.0), omega (arith, here.1, rest.1))

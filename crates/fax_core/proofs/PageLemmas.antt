@@ -1,6 +1,6 @@
 -- Pages go from the front of those left to the end of those sent, and stay there.
 use Rattle.std.proofs.Common.{◌≡◌, ◌≢◌, ◌⊎◌, inl, inr, ℕ, zero, suc, ◌+◌, ◌-◌, ◌<◌, ◌≤◌, Bool, true, false, cond, eqb, List, [], ◌∷◌, ◌++◌, length, refl, sym, ap, subst, ◌∙◌, append_assoc, arith}
-use Rattle.std.specs.Prelude.{Option, Some, None, Result, Ok, Err, find, max}
+use Rattle.std.specs.Prelude.{Option, Some, None, Result, Ok, Err, find, max, nat_lt}
 use Rattle.std.specs.List.{range_with_len}
 use Rattle.std.specs.Option.{option_map}
 use Rattle.std.proofs.lemmas.Bool.{cases_eq}
@@ -10,22 +10,24 @@ use Rattle.fax_job.specs.declared.refusal.Refusal.TheVariants as refusal
 use Rattle.fax_core.specs.declared.grants.Grant.{Grant}
 use Rattle.fax_core.specs.Ageing.{aged, aged_job}
 use Rattle.fax_core.specs.declared.ask.Ask.{Ask}
-use Rattle.fax_core.specs.declared.ask.Ask.TheVariants.{Submission, Bring, OnJob, Mark, Next, OnGrant, GiveUp}
+use Rattle.fax_core.specs.declared.ask.Ask.TheVariants.{Submission, Bring, OnJob, Mark, Next, OnGrant, GiveUp, Purge}
 use Rattle.fax_core.specs.declared.ask.JobAsk.{JobAsk}
 use Rattle.fax_core.specs.declared.report.Report.{Report}
 use Rattle.fax_core.specs.declared.report.Report.TheVariants.{Page}
 use Rattle.fax_core.specs.Decisions.{JobAndGrant, submit, job_asked, granted, grant_reported}
 use Rattle.fax_core.specs.Import.{bring}
 use Rattle.fax_core.specs.Job.{Job, HasPages, pages_to}
-use Rattle.fax_core.specs.Laws.{HasSent, ConfirmsPage, GivesJob}
+use Rattle.fax_core.specs.Laws.{HasSent, IsGone, ConfirmsPage, GivesJob}
 use Rattle.fax_core.specs.Machine.{with_job, with_both, with_new_job, with_new_grant, with_mark, dial_of, handed, submitted, brought_in, changed, on_job, reported, on_both, on_grant, report_reply, act, step, given_to}
-use Rattle.fax_core.specs.Stamp.{stamp}
+use Rattle.fax_core.specs.Purge.{is_none_of, leaving, without_jobs}
 use Rattle.fax_core.specs.Queue.{Queue, job_numbered, grant_numbered}
-use Rattle.fax_core.specs.Reply.{Reply, Marked, Handed, Given, NoKeys, Step, Taken, Refused}
+use Rattle.fax_core.specs.Reply.{Reply, Marked, Handed, Given, Purged, NoKeys, Step, Taken, Refused}
 use Rattle.fax_core.specs.Run.{Request, left_by, decided, queue_after, AreLawful}
 use Rattle.fax_core.specs.Settings.{Rule, Settings, has_modem}
 use Rattle.fax_core.specs.Sound.{IsJob, IsOpen, Sound}
 use Rattle.fax_core.proofs.DecisionLemmas.{Keeps, aged_number, aged_sent, asked_in, paged, reported_in}
+use Rattle.fax_core.proofs.GoneLemmas.{aged_gone, step_gone}
+use Rattle.fax_core.proofs.LeaveLemmas.{job_after, job_below, job_gone}
 use Rattle.fax_core.proofs.KeepLemmas.{same_job, numbered_job, looked_up, Grants, found_new}
 use Rattle.fax_core.proofs.PlaceLemmas.{stays, placed_here, placed_other}
 use Rattle.fax_core.proofs.StepLemmas.{taken_same, aged_sound, GivenTo, None_to, Best_to, given_is, given_grants, run_sound, step_sound, decided_sound}
@@ -33,23 +35,32 @@ use Rattle.fax_core.proofs.TimesLemmas.{by_stamp}
 
 -- ---- the pages that are sent stay sent
 
-abbrev pub KeepsSent : Queue → Queue → Type 0
-KeepsSent m n = (a : ℕ) (j : Job) → IsJob m a j → HasSent n a j.sent
+abbrev pub StaysSent : Queue → Queue → Type 0
+StaysSent m n = (a : ℕ) (j : Job) → IsJob m a j → HasSent n a j.sent
+
+-- the same of the jobs that don't leave
+abbrev SentOrGone : Queue → Queue → Type 0
+SentOrGone m n = (a : ℕ) (j : Job) → IsJob m a j → HasSent n a j.sent ⊎ IsGone n a
+
+-- and what has left stays away
+pub record KeepsSent (m n : Queue) : Type 0 where
+  pub sent : SentOrGone m n
+  pub gone : (a : ℕ) → IsGone m a → IsGone n a
 
 -- the same jobs have sent the same pages
-same_sent : (m n : Queue) → n.jobs ≡ m.jobs → KeepsSent m n
+same_sent : (m n : Queue) → n.jobs ≡ m.jobs → StaysSent m n
 same_sent m n e a j is = record { job = j; there = subst (λ (js : List Job). find (λ k. eqb k.number a) js ≡ Some j) (sym e) is; more = []; begins = sym (append-nil j.sent) }
 
 -- what stays sent twice stays sent
-pub through : (l m n : Queue) → KeepsSent l m → KeepsSent m n → KeepsSent l n
-through l m n f g a j is =
+through_stays : (l m n : Queue) → StaysSent l m → StaysSent m n → StaysSent l n
+through_stays l m n f g a j is =
     let x = f a j is in
     let y = g a x.job x.there in
     record { job = y.job; there = y.there; more = x.more ++ y.more; begins = y.begins ∙ ap (λ (ps : List ℕ). ps ++ y.more) x.begins ∙ append_assoc j.sent x.more y.more }
 
 -- ageing leaves what is sent
-pub aged_keeps : (t : ℕ) (m : Queue) → KeepsSent m (aged t m)
-aged_keeps t m a j is = record { job = aged_job t j; there = looked_up m (aged_job t) (aged_number t) a ∙ ap (option_map (aged_job t)) is; more = []; begins = aged_sent t j ∙ sym (append-nil j.sent) }
+aged_stays : (t : ℕ) (m : Queue) → StaysSent m (aged t m)
+aged_stays t m a j is = record { job = aged_job t j; there = looked_up m (aged_job t) (aged_number t) a ∙ ap (option_map (aged_job t)) is; more = []; begins = aged_sent t j ∙ sym (append-nil j.sent) }
 
 -- a job in its place
 placed_keeps_by : (m : Queue) (b : ℕ) (j k : Job) (more : List ℕ) → IsJob m b j → k.number ≡ b → k.sent ≡ j.sent ++ more → (a : ℕ) (x : Job) → IsJob m a x → (k.number ≡ a) ⊎ (k.number ≢ a) → HasSent (with_job k m) a x.sent
@@ -61,18 +72,18 @@ placed_keeps_by m b j k more is same e a x at (inr q) =
     record { job = x; there = placed_other (λ (y : Job). y.number) a k x m.jobs at q; more = []; begins = sym (append-nil x.sent) }
 
 -- a job in its place, with more pages sent, leaves what is sent
-placed_keeps : (m : Queue) (b : ℕ) (j k : Job) (more : List ℕ) → IsJob m b j → k.number ≡ b → k.sent ≡ j.sent ++ more → KeepsSent m (with_job k m)
+placed_keeps : (m : Queue) (b : ℕ) (j k : Job) (more : List ℕ) → IsJob m b j → k.number ≡ b → k.sent ≡ j.sent ++ more → StaysSent m (with_job k m)
 placed_keeps m b j k more is same e a x at = placed_keeps_by m b j k more is same e a x at (cases_eq k.number a)
 
 -- a change of a job leaves what is sent
-changed_keeps : (s : Settings) (m : Queue) (t : ℕ) (a : ℕ) (j : Job) (d : Result Job Refusal) (n : Queue) (r : Reply) → IsJob m a j → ((k : Job) → d ≡ Ok k → Keeps j k) → changed s m t d ≡ Taken n r → KeepsSent m n
+changed_keeps : (s : Settings) (m : Queue) (t : ℕ) (a : ℕ) (j : Job) (d : Result Job Refusal) (n : Queue) (r : Reply) → IsJob m a j → ((k : Job) → d ≡ Ok k → Keeps j k) → changed s m t d ≡ Taken n r → StaysSent m n
 changed_keeps s m t a j (Ok k) n r is keeps e =
     let f = keeps k refl in
-    subst (KeepsSent m) (taken_same (with_job k m) n _ r e).0 (placed_keeps m a j k [] is (f.number ∙ numbered_job m a j is) (f.sent ∙ sym (append-nil j.sent)))
+    subst (StaysSent m) (taken_same (with_job k m) n _ r e).0 (placed_keeps m a j k [] is (f.number ∙ numbered_job m a j is) (f.sent ∙ sym (append-nil j.sent)))
 changed_keeps s m t a j (Err x) n r is keeps e = cc
 
 -- so does a request on a job
-on_job_keeps : (s : Settings) (m : Queue) (t : ℕ) (a : ℕ) (ask : JobAsk) (o : Option Job) (n : Queue) (r : Reply) → job_numbered a m ≡ o → on_job s m t ask o ≡ Taken n r → KeepsSent m n
+on_job_keeps : (s : Settings) (m : Queue) (t : ℕ) (a : ℕ) (ask : JobAsk) (o : Option Job) (n : Queue) (r : Reply) → job_numbered a m ≡ o → on_job s m t ask o ≡ Taken n r → StaysSent m n
 on_job_keeps s m t a ask None n r is e = cc
 on_job_keeps s m t a ask (Some j) n r is e = changed_keeps s m t a j (job_asked ask t j) n r is (asked_in ask t j) e
 
@@ -104,27 +115,27 @@ on_grant_is s m t a x None n r is e = cc
 on_grant_is s m t a x (Some g) n r is e = on_both_is s m t a x g (job_numbered g.job m) n r is refl e
 
 -- a report leaves what is sent
-report_keeps : (s : Settings) (m n : Queue) (t a : ℕ) (report : Report) → Reported s m n t a report → KeepsSent m n
+report_keeps : (s : Settings) (m n : Queue) (t a : ℕ) (report : Report) → Reported s m n t a report → StaysSent m n
 report_keeps s m n t a report x =
     let f = reported_in report s.delay t x.job x.grant x.both x.made in
     let k = placed_keeps m x.grant.job x.job x.both.job f.more x.of (f.number ∙ numbered_job m x.grant.job x.job x.of) f.sent in
-    through m (with_job x.both.job m) n k (same_sent (with_job x.both.job m) n (ap (λ (q : Queue). q.jobs) (sym x.left)))
+    through_stays m (with_job x.both.job m) n k (same_sent (with_job x.both.job m) n (ap (λ (q : Queue). q.jobs) (sym x.left)))
 
 -- so does a request for work
-given_keeps : (s : Settings) (m : Queue) (t : ℕ) (modem : List ℕ) (n : Queue) (r : Reply) → GivenTo s m t modem n r → KeepsSent m n
+given_keeps : (s : Settings) (m : Queue) (t : ℕ) (modem : List ℕ) (n : Queue) (r : Reply) → GivenTo s m t modem n r → StaysSent m n
 given_keeps s m t modem n r (None_to none same told) = same_sent m n (ap (λ (q : Queue). q.jobs) (sym same))
 given_keeps s m t modem n r (Best_to j b none same told) =
     let k = (granted j modem m.next_grant).job in
-    through m (with_job k m) n (placed_keeps m j.number j k [] b.goes.there refl (sym (append-nil j.sent))) (same_sent (with_job k m) n (ap (λ (q : Queue). q.jobs) (sym same)))
+    through_stays m (with_job k m) n (placed_keeps m j.number j k [] b.goes.there refl (sym (append-nil j.sent))) (same_sent (with_job k m) n (ap (λ (q : Queue). q.jobs) (sym same)))
 
 -- and a submission
-submission_keeps : (m : Queue) (rule : Rule) (d : Result Job Refusal) (n : Queue) (r : Reply) → submitted m rule d ≡ Taken n r → KeepsSent m n
-submission_keeps m rule (Ok k) n r e = subst (KeepsSent m) (taken_same (with_new_job k m) n _ r e).0 (λ a j is. record { job = j; there = stays (λ (x : Job). eqb x.number a) m.jobs k j is; more = []; begins = sym (append-nil j.sent) })
+submission_keeps : (m : Queue) (rule : Rule) (d : Result Job Refusal) (n : Queue) (r : Reply) → submitted m rule d ≡ Taken n r → StaysSent m n
+submission_keeps m rule (Ok k) n r e = subst (StaysSent m) (taken_same (with_new_job k m) n _ r e).0 (λ a j is. record { job = j; there = stays (λ (x : Job). eqb x.number a) m.jobs k j is; more = []; begins = sym (append-nil j.sent) })
 submission_keeps m rule (Err x) n r e = cc
 
 -- and an import
-import_keeps : (s : Settings) (m : Queue) (t : ℕ) (rule : Rule) (d : Result Job Refusal) (n : Queue) (r : Reply) → brought_in s m t rule d ≡ Taken n r → KeepsSent m n
-import_keeps s m t rule (Ok k) n r e = subst (KeepsSent m) (taken_same (with_new_job k m) n _ r e).0 (λ a j is. record { job = j; there = stays (λ (x : Job). eqb x.number a) m.jobs k j is; more = []; begins = sym (append-nil j.sent) })
+import_keeps : (s : Settings) (m : Queue) (t : ℕ) (rule : Rule) (d : Result Job Refusal) (n : Queue) (r : Reply) → brought_in s m t rule d ≡ Taken n r → StaysSent m n
+import_keeps s m t rule (Ok k) n r e = subst (StaysSent m) (taken_same (with_new_job k m) n _ r e).0 (λ a j is. record { job = j; there = stays (λ (x : Job). eqb x.number a) m.jobs k j is; more = []; begins = sym (append-nil j.sent) })
 import_keeps s m t rule (Err x) n r e = cc
 
 -- a mark leaves the jobs
@@ -133,34 +144,91 @@ mark_jobs m modem true = refl
 mark_jobs m modem false = refl
 
 -- so it leaves what is sent
-mark_keeps : (m : Queue) (modem : List ℕ) (down b : Bool) (n : Queue) (r : Reply) → cond b (Taken (with_mark modem down m) (Marked down)) (Refused refusal.NoModem NoKeys) ≡ Taken n r → KeepsSent m n
+mark_keeps : (m : Queue) (modem : List ℕ) (down b : Bool) (n : Queue) (r : Reply) → cond b (Taken (with_mark modem down m) (Marked down)) (Refused refusal.NoModem NoKeys) ≡ Taken n r → StaysSent m n
 mark_keeps m modem down true n r e = same_sent m n (ap (λ (q : Queue). q.jobs) (sym (taken_same (with_mark modem down m) n _ r e).0) ∙ mark_jobs m modem down)
 mark_keeps m modem down false n r e = cc
 
--- each request leaves what is sent
-act_keeps : (s : Settings) (m n : Queue) (t : ℕ) (ask : Ask) (r : Reply) → Sound m → act s m t ask ≡ Taken n r → KeepsSent m n
-act_keeps s m n t (Submission o) r h e = submission_keeps m (s.rule o.dial) (submit o (s.rule o.dial) m.next_job s.max_jobs t) n r e
-act_keeps s m n t (Bring i) r h e = import_keeps s m t (s.rule i.order.dial) (bring i (s.rule i.order.dial) m.next_job s.max_jobs t) n r e
-act_keeps s m n t (OnJob a ask) r h e = on_job_keeps s m t a ask (job_numbered a m) n r refl e
-act_keeps s m n t (Mark modem down) r h e = mark_keeps m modem down (has_modem s modem) n r e
-act_keeps s m n t (Next modem) r h e = given_keeps s m t modem n r (given_is s m t modem n r h e)
-act_keeps s m n t (OnGrant a report) r h e = report_keeps s m n t a report (on_grant_is s m t a report (grant_numbered a m) n r refl e)
-act_keeps s m n t (GiveUp floor) r h e = same_sent m n (ap (λ (q : Queue). q.jobs) (sym (taken_same m n _ r e).0))
+-- the same where no job leaves
+none_leave : (m n : Queue) → StaysSent m n → SentOrGone m n
+none_leave m n h a j is = inl (h a j is)
+
+-- where jobs leave, the others stay as they are
+leave_keeps : (m : Queue) (numbers : List ℕ) → Sound m → SentOrGone m (without_jobs numbers m)
+leave_keeps m numbers h a j is = by (is_none_of numbers j.number) refl
+  where
+    by : (stays : Bool) → is_none_of numbers j.number ≡ stays → HasSent (without_jobs numbers m) a j.sent ⊎ IsGone (without_jobs numbers m) a
+    by true e = inl (record { job = j; there = job_after m numbers h a j is e; more = []; begins = sym (append-nil j.sent) })
+    by false e = inr (record { absent = job_gone m numbers h a j is e; given = job_below m h a j is })
+
+-- a purge does so
+purged_keeps : (m : Queue) (before : ℕ) (b : Bool) (n : Queue) (r : Reply) → Sound m → cond b (Refused refusal.PurgeHigh NoKeys) (Taken (without_jobs (leaving before m) m) (Purged (length (leaving before m)))) ≡ Taken n r → SentOrGone m n
+purged_keeps m before true n r h e = cc
+purged_keeps m before false n r h e = subst (SentOrGone m) (taken_same (without_jobs (leaving before m) m) n _ r e).0 (leave_keeps m (leaving before m) h)
+
+-- each request but a purge leaves what is sent
+pub act_stays : (s : Settings) (m n : Queue) (t : ℕ) (ask : Ask) (r : Reply) → Sound m → ((before : ℕ) → ask ≢ Purge before) → act s m t ask ≡ Taken n r → StaysSent m n
+act_stays s m n t (Submission o) r h other e = submission_keeps m (s.rule o.dial) (submit o (s.rule o.dial) m.next_job s.max_jobs t) n r e
+act_stays s m n t (Bring i) r h other e = import_keeps s m t (s.rule i.order.dial) (bring i (s.rule i.order.dial) m.next_job s.max_jobs t) n r e
+act_stays s m n t (OnJob a ask) r h other e = on_job_keeps s m t a ask (job_numbered a m) n r refl e
+act_stays s m n t (Mark modem down) r h other e = mark_keeps m modem down (has_modem s modem) n r e
+act_stays s m n t (Next modem) r h other e = given_keeps s m t modem n r (given_is s m t modem n r h e)
+act_stays s m n t (OnGrant a report) r h other e = report_keeps s m n t a report (on_grant_is s m t a report (grant_numbered a m) n r refl e)
+act_stays s m n t (GiveUp floor) r h other e = same_sent m n (ap (λ (q : Queue). q.jobs) (sym (taken_same m n _ r e).0))
+act_stays s m n t (Purge before) r h other e = absurd (other before refl)
+
+-- a purge leaves what is sent, or the job leaves
+act_keeps : (s : Settings) (m n : Queue) (t : ℕ) (ask : Ask) (r : Reply) → Sound m → act s m t ask ≡ Taken n r → SentOrGone m n
+act_keeps s m n t (Submission o) r h e = none_leave m n (act_stays s m n t (Submission o) r h (λ before is. cc) e)
+act_keeps s m n t (Bring i) r h e = none_leave m n (act_stays s m n t (Bring i) r h (λ before is. cc) e)
+act_keeps s m n t (OnJob a ask) r h e = none_leave m n (act_stays s m n t (OnJob a ask) r h (λ before is. cc) e)
+act_keeps s m n t (Mark modem down) r h e = none_leave m n (act_stays s m n t (Mark modem down) r h (λ before is. cc) e)
+act_keeps s m n t (Next modem) r h e = none_leave m n (act_stays s m n t (Next modem) r h (λ before is. cc) e)
+act_keeps s m n t (OnGrant a report) r h e = none_leave m n (act_stays s m n t (OnGrant a report) r h (λ before is. cc) e)
+act_keeps s m n t (GiveUp floor) r h e = none_leave m n (act_stays s m n t (GiveUp floor) r h (λ before is. cc) e)
+act_keeps s m n t (Purge before) r h e = purged_keeps m before (nat_lt t before) n r h e
 
 -- so does a step
+step_sent : (s : Settings) (m n : Queue) (t : ℕ) (ask : Ask) (r : Reply) → Sound m → step s m t ask ≡ Taken n r → SentOrGone m n
+step_sent s m n t ask r h e =
+    by_stamp (SentOrGone m) t (aged t m) (act s (aged t m) t ask) n r e (λ k is a j there.
+    let x = aged_stays t m a j there in
+    elim (act_keeps s (aged t m) k t ask r (aged_sound t m h) is a x.job x.there) [
+      | inl y ↦ inl (record { job = y.job; there = y.there; more = x.more ++ y.more; begins = y.begins ∙ ap (λ (ps : List ℕ). ps ++ y.more) x.begins ∙ append_assoc j.sent x.more y.more })
+      | inr gone ↦ inr (record { absent = gone.absent; given = gone.given })
+    ])
+
 pub step_keeps : (s : Settings) (m n : Queue) (t : ℕ) (ask : Ask) (r : Reply) → Sound m → step s m t ask ≡ Taken n r → KeepsSent m n
-step_keeps s m n t ask r h e =
-    by_stamp (KeepsSent m) t (aged t m) (act s (aged t m) t ask) n r e (λ k is.
-    through m k (stamp t (aged t m) k) (through m (aged t m) k (aged_keeps t m) (act_keeps s (aged t m) k t ask r (aged_sound t m h) is)) (same_sent k (stamp t (aged t m) k) refl))
+step_keeps s m n t ask r h e = record { sent = step_sent s m n t ask r h e; gone = λ a gone. step_gone s m n t ask r a e gone }
+
+-- what is left alone keeps what is sent
+pub same_keeps : (m : Queue) → KeepsSent m m
+same_keeps m = record { sent = none_leave m m (same_sent m m refl); gone = λ a gone. gone }
+
+-- so does ageing
+pub aged_keeps : (t : ℕ) (m : Queue) → KeepsSent m (aged t m)
+aged_keeps t m = record { sent = none_leave m (aged t m) (aged_stays t m); gone = aged_gone t m }
+
+-- what is kept twice is kept
+pub through : (l m n : Queue) → KeepsSent l m → KeepsSent m n → KeepsSent l n
+through l m n f g = record {
+  sent = λ a j is. elim (f.sent a j is) [
+    | inl x ↦ elim (g.sent a x.job x.there) [
+      | inl y ↦ inl (record { job = y.job; there = y.there; more = x.more ++ y.more; begins = y.begins ∙ ap (λ (ps : List ℕ). ps ++ y.more) x.begins ∙ append_assoc j.sent x.more y.more })
+      | inr gone ↦ inr gone
+    ]
+    | inr gone ↦ inr (g.gone a gone)
+  ];
+  gone = λ a gone. g.gone a (f.gone a gone);
+}
 
 -- what a step leaves where it is taken, it leaves in any case
 left_keeps : (m : Queue) (x : Step) → ((n : Queue) (r : Reply) → x ≡ Taken n r → KeepsSent m n) → KeepsSent m (left_by m x)
 left_keeps m (Taken n r) f = f n r refl
-left_keeps m (Refused e k) f = same_sent m m refl
+left_keeps m (Refused e k) f = same_keeps m
 
 -- a run leaves what is sent
 pub run_keeps : (s : Settings) (m : Queue) (rs : List Request) → Sound m → AreLawful rs → KeepsSent m (queue_after s m rs)
-run_keeps s m [] h lawful = same_sent m m refl
+run_keeps s m [] h lawful = same_keeps m
 run_keeps s m (r ∷ rs) h lawful =
     let next = left_by m (decided s m r) in
     through m next (queue_after s m (r ∷ rs))
@@ -299,9 +367,10 @@ page_counted m n a p c h =
     let long : length c.new.sent ≡ length c.old.sent + 1 = ap length c.sent_now ∙ length-append c.old.sent (p ∷ []) in
     omega arith
 
--- no fewer pages are sent than were at first
-pub sent_before : (m : Queue) (a : ℕ) (pages : List ℕ) (j : Job) → HasSent m a pages → IsJob m a j → length pages ≤ length j.sent
-sent_before m a pages j x is =
+-- of a job that is there no fewer pages are sent than were at first
+pub sent_before : (m : Queue) (a : ℕ) (pages : List ℕ) (j : Job) → HasSent m a pages ⊎ IsGone m a → IsJob m a j → length pages ≤ length j.sent
+sent_before m a pages j (inr gone) is = cc (gone.absent, is)
+sent_before m a pages j (inl x) is =
     let same : x.job.sent ≡ j.sent = ap (λ (k : Job). k.sent) (same_job m a x.job j x.there is) in
     let long : length x.job.sent ≡ length pages + length x.more = ap length x.begins ∙ length-append pages x.more in
     let all : length x.job.sent ≡ length j.sent = ap length same in
@@ -326,7 +395,7 @@ later_of s m n t grant page reply g rs u sound lawful taken is =
       sound = end;
       counted = λ j there.
           let same : IsJob (aged u (queue_after s n rs)) c.grant.job j = subst (λ (x : Grant). IsJob (aged u (queue_after s n rs)) x.job j) (sym it) there in
-          let more = sent_before (aged u (queue_after s n rs)) c.grant.job c.new.sent j (kept c.grant.job c.new c.there) same in
+          let more = sent_before (aged u (queue_after s n rs)) c.grant.job c.new.sent j (kept.sent c.grant.job c.new c.there) same in
           omega arith;
     }
 

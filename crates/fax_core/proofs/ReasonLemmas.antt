@@ -12,7 +12,7 @@ use Rattle.fax_job.specs.declared.job.Wish.{Wish}
 use Rattle.fax_job.specs.declared.job.Wish.TheVariants as wish
 use Rattle.fax_job.specs.declared.order.Order.{Order}
 use Rattle.fax_job.specs.declared.refusal.Refusal.{Refusal}
-use Rattle.fax_job.specs.declared.refusal.Refusal.TheVariants.{NoJob, NoModem, NoGrant, Rejected, TooManyPages, JobOver, JobActive, NotSuspended, LimitReached, ModemDown, ModemBusy, GrantClosed, CallKnown, NotConnected, PageOrder, CallMissing, PagesMismatch, PagesLeft, Full}
+use Rattle.fax_job.specs.declared.refusal.Refusal.TheVariants.{NoJob, NoModem, NoGrant, Rejected, TooManyPages, JobOver, JobActive, NotSuspended, LimitReached, ModemDown, ModemBusy, GrantClosed, CallKnown, NotConnected, PageOrder, CallMissing, PagesMismatch, PagesLeft, Full, PurgeHigh}
 use Rattle.fax_core.specs.Ageing.{aged}
 use Rattle.fax_core.specs.Best.{best}
 use Rattle.fax_core.specs.Decisions.{JobAndGrant, after_call, alter_in, altered, call, ended, grant, grant_reported, granted, is_connected, is_done, is_empty, is_over, job_asked, kill_in, new_job, outcome, page, page_of, resume_in, submit, suspend_in}
@@ -20,12 +20,12 @@ use Rattle.fax_core.specs.Import.{bring, brought, is_ended, old_job}
 use Rattle.fax_core.specs.Job.{Job}
 use Rattle.fax_core.specs.Machine.{act, brought_in, changed, given, given_best, given_free, given_to, handed, held_by, is_down, marked, on_both, on_grant, on_job, report_reply, reported, submitted, with_mark, without_job}
 use Rattle.fax_core.specs.Queue.{Queue, grant_numbered, job_numbered}
-use Rattle.fax_core.specs.Reasons.{IsAtLimit, IsNotNext, RefusalsHaveReasons, When, WhenAsked, WhenNew, WhenNext, WhenReported}
+use Rattle.fax_core.specs.Reasons.{IsAtLimit, IsNotNext, RefusalsHaveReasons, When, WhenAsked, WhenNew, WhenNext, WhenPurged, WhenReported}
 use Rattle.fax_core.specs.Reply.{Keys, Marked, NoKeys, Reply, Step, Taken, Refused}
 use Rattle.fax_core.specs.Settings.{Rule, Settings, has_modem}
 use Rattle.fax_core.specs.Sound.{Sound}
 use Rattle.fax_core.specs.declared.ask.Ask.{Ask}
-use Rattle.fax_core.specs.declared.ask.Ask.TheVariants.{Submission, Bring, OnJob, Mark, Next, OnGrant, GiveUp}
+use Rattle.fax_core.specs.declared.ask.Ask.TheVariants.{Submission, Bring, OnJob, Mark, Next, OnGrant, GiveUp, Purge}
 use Rattle.fax_core.specs.declared.ask.JobAsk.{JobAsk}
 use Rattle.fax_core.specs.declared.ask.JobAsk.TheVariants as ask
 use Rattle.fax_core.specs.declared.grants.Grant.{Grant}
@@ -303,6 +303,7 @@ reason s m t (Next modem) e k sound h = next_by s m t modem e k sound h
 reason s m t (OnGrant n r) e k sound h =
     on_grant_by (WhenReported m n r) s m t n r (grant_numbered n m) e k h sound refl (λ none. none) (λ g there shut. (g, there, shut)) (λ j g x there its d. report_by s m t n r j g x there its d)
 reason s m t (GiveUp floor) e k sound h = cc
+reason s m t (Purge before) e k sound h = step_by_test (WhenPurged t before) (nat_lt t before) PurgeHigh e NoKeys k _ h (ltb-true t before) (λ h. cc)
 
 -- so has each step, in the queue as it is at its moment
 pub refusals_have_reasons : RefusalsHaveReasons

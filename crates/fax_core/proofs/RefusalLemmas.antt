@@ -10,12 +10,12 @@ use Rattle.fax_job.specs.declared.job.Wish.{Wish}
 use Rattle.fax_job.specs.declared.job.Wish.TheVariants as wish
 use Rattle.fax_job.specs.declared.order.Order.{Order}
 use Rattle.fax_job.specs.declared.refusal.Refusal.{Refusal}
-use Rattle.fax_job.specs.declared.refusal.Refusal.TheVariants.{NoJob, NoModem, NoGrant, Rejected, TooManyPages, JobOver, JobActive, NotSuspended, LimitReached, ModemDown, ModemBusy, GrantClosed, CallKnown, NotConnected, PageOrder, CallMissing, PagesMismatch, PagesLeft, Full}
+use Rattle.fax_job.specs.declared.refusal.Refusal.TheVariants.{NoJob, NoModem, NoGrant, Rejected, TooManyPages, JobOver, JobActive, NotSuspended, LimitReached, ModemDown, ModemBusy, GrantClosed, CallKnown, NotConnected, PageOrder, CallMissing, PagesMismatch, PagesLeft, Full, PurgeHigh}
 use Rattle.fax_job.specs.Refusal.{refusal_number}
 use Rattle.fax_core.specs.declared.grants.Grant.{Grant}
 use Rattle.fax_core.specs.Ageing.{aged}
 use Rattle.fax_core.specs.declared.ask.Ask.{Ask}
-use Rattle.fax_core.specs.declared.ask.Ask.TheVariants.{Submission, Bring, OnJob, Mark, Next, OnGrant, GiveUp}
+use Rattle.fax_core.specs.declared.ask.Ask.TheVariants.{Submission, Bring, OnJob, Mark, Next, OnGrant, GiveUp, Purge}
 use Rattle.fax_core.specs.declared.ask.JobAsk.{JobAsk}
 use Rattle.fax_core.specs.declared.ask.JobAsk.TheVariants as ask
 use Rattle.fax_core.specs.declared.report.Outcome.{Outcome}
@@ -258,6 +258,7 @@ act_refused s m t (Mark modem down) e k h x = mark_refused (IsOf (Mark modem dow
 act_refused s m t (Next modem) e k h x = next_refused s m t modem e k x
 act_refused s m t (OnGrant n r) e k h x = on_grant_refused (IsOf (OnGrant n r)) s m t n r (grant_numbered n m) e k h refl (is_of refl refl) (is_of refl refl) (λ j g. report_refused n s t r j g) x
 act_refused s m t (GiveUp floor) e k h x = cc
+act_refused s m t (Purge before) e k h x = step_or (IsOf (Purge before)) (nat_lt t before) PurgeHigh e NoKeys k _ x (is_of refl refl) (λ x. cc)
 
 -- so has each refused step
 pub step_refused : (s : Settings) (m : Queue) (t : ℕ) (ask : Ask) (e : Refusal) (k : Keys) → Sound m → step s m t ask ≡ Refused e k → IsOf ask e k

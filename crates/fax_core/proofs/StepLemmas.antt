@@ -1,16 +1,16 @@
 -- A step from a sound queue leaves a sound queue.
 use Rattle.std.proofs.Common.{map, ◌≡◌, ◌≢◌, ℕ, Bool, true, false, cond, not, eqb, List, [], ◌∷◌, refl, sym, ap, subst, ◌∙◌, arith}
-use Rattle.std.specs.Prelude.{Option, Some, None, Result, Ok, Err, max}
+use Rattle.std.specs.Prelude.{Option, Some, None, Result, Ok, Err, length, max, nat_lt}
 use Rattle.std.specs.Str.{bytes_eq}
 use Rattle.std.specs.Cmp.Lexicographic.{bytes_decides}
 use Rattle.fax_job.specs.declared.job.Phase.TheVariants.{Waiting, Granted}
 use Rattle.fax_job.specs.declared.refusal.Refusal.{Refusal}
-use Rattle.fax_job.specs.declared.refusal.Refusal.TheVariants.{NoModem}
+use Rattle.fax_job.specs.declared.refusal.Refusal.TheVariants.{NoModem, PurgeHigh}
 use Rattle.fax_core.specs.declared.grants.Grant.{Grant}
 use Rattle.fax_core.specs.Ageing.{aged, aged_job}
 use Rattle.fax_core.specs.Ask.{IsLawfulAsk}
 use Rattle.fax_core.specs.declared.ask.Ask.{Ask}
-use Rattle.fax_core.specs.declared.ask.Ask.TheVariants.{Submission, Bring, OnJob, Mark, Next, OnGrant, GiveUp}
+use Rattle.fax_core.specs.declared.ask.Ask.TheVariants.{Submission, Bring, OnJob, Mark, Next, OnGrant, GiveUp, Purge}
 use Rattle.fax_core.specs.declared.ask.JobAsk.{JobAsk}
 use Rattle.fax_core.specs.declared.report.Report.{Report}
 use Rattle.fax_core.specs.Best.{best, MayGo, IsBest}
@@ -18,8 +18,9 @@ use Rattle.fax_core.specs.Decisions.{JobAndGrant, submit, job_asked, grant, gran
 use Rattle.fax_core.specs.Import.{bring}
 use Rattle.fax_core.specs.Job.{Job}
 use Rattle.fax_core.specs.Machine.{with_job, with_both, with_new_job, with_new_grant, with_mark, is_down, held_by, handed, submitted, brought_in, changed, on_job, reported, on_both, on_grant, given, given_best, given_free, given_to, report_reply, act, step}
+use Rattle.fax_core.specs.Purge.{leaving, without_jobs}
 use Rattle.fax_core.specs.Queue.{Queue, open_grants, job_numbered, grant_numbered}
-use Rattle.fax_core.specs.Reply.{Reply, Handed, Marked, NoneToSend, Given, Keys, NoKeys, Step, Taken, Refused}
+use Rattle.fax_core.specs.Reply.{Reply, Handed, Marked, NoneToSend, Given, Purged, Keys, NoKeys, Step, Taken, Refused}
 use Rattle.fax_core.specs.Run.{Request, left_by, decided, queue_after, AreLawful}
 use Rattle.fax_core.specs.Settings.{Rule, Settings, has_modem}
 use Rattle.fax_core.specs.Sound.{FitsFree, FitsGrant, IsJob, IsOpen, Sound}
@@ -28,7 +29,8 @@ use Rattle.fax_core.proofs.DecisionLemmas as decision
 use Rattle.fax_core.proofs.DecisionLemmas.{Keeps, IsReport, aged_number, aged_over, aged_free, aged_held, asked_in, reported_in, granted_fits, not_refused, ok_same}
 use Rattle.fax_core.proofs.ImportLemmas.{bring_counts, bring_fits}
 use Rattle.fax_core.proofs.KeepLemmas.{same_job, numbered_job, keeps_mapped, keeps_job, keeps_both, keeps_new_job, Grants, keeps_new_grant, Kept, kept_of, stamp_sound}
-use Rattle.fax_core.proofs.TimesLemmas.{follows_same, stamped_taken}
+use Rattle.fax_core.proofs.LeaveLemmas.{keeps_without}
+use Rattle.fax_core.proofs.TimesLemmas.{follows_same, stamped_taken, stays_timed}
 use Rattle.fax_core.specs.Times.{has_ended}
 use Rattle.fax_core.proofs.PlaceLemmas.{In, found_in, none_passes, in_filter}
 
@@ -100,8 +102,8 @@ on_grant_sound s m t a x (Some g) n r is h e = on_both_sound s m t a x g (job_nu
 
 -- a mark leaves the queue sound
 mark_sound : (m : Queue) (modem : List ℕ) (down : Bool) → Sound m → Kept m (with_mark modem down m)
-mark_sound m modem true h = record { follows = follows_same m.jobs; times = refl; jobs = h.jobs; grants = h.grants; one_to_a_modem = h.one_to_a_modem; one_of_a_job = h.one_of_a_job; held = h.held; free = h.free }
-mark_sound m modem false h = record { follows = follows_same m.jobs; times = refl; jobs = h.jobs; grants = h.grants; one_to_a_modem = h.one_to_a_modem; one_of_a_job = h.one_of_a_job; held = h.held; free = h.free }
+mark_sound m modem true h = record { timed = stays_timed m (with_mark modem true m) h.jobs h.jobs (follows_same m.jobs) refl; jobs = h.jobs; grants = h.grants; one_to_a_modem = h.one_to_a_modem; one_of_a_job = h.one_of_a_job; held = h.held; free = h.free }
+mark_sound m modem false h = record { timed = stays_timed m (with_mark modem false m) h.jobs h.jobs (follows_same m.jobs) refl; jobs = h.jobs; grants = h.grants; one_to_a_modem = h.one_to_a_modem; one_of_a_job = h.one_of_a_job; held = h.held; free = h.free }
 
 -- so does a request that marks a modem
 marked_by : (m : Queue) (modem : List ℕ) (down b : Bool) (n : Queue) (r : Reply) → Sound m → cond b (Taken (with_mark modem down m) (Marked down)) (Refused NoModem NoKeys) ≡ Taken n r → Kept m n
@@ -178,6 +180,11 @@ given_sound s m t modem n r h (Best_to j b none same told) = subst (Kept m) same
 
 -- ---- each request
 
+-- a purge leaves the queue sound
+purged_by : (m : Queue) (before : ℕ) (b : Bool) (n : Queue) (r : Reply) → Sound m → cond b (Refused PurgeHigh NoKeys) (Taken (without_jobs (leaving before m) m) (Purged (length (leaving before m)))) ≡ Taken n r → Kept m n
+purged_by m before true n r h e = cc
+purged_by m before false n r h e = subst (Kept m) (taken_same (without_jobs (leaving before m) m) n _ r e).0 (keeps_without m (leaving before m) h)
+
 -- each request leaves the queue sound
 act_sound : (s : Settings) (m n : Queue) (t : ℕ) (ask : Ask) (r : Reply) → Sound m → IsLawfulAsk ask → act s m t ask ≡ Taken n r → Kept m n
 act_sound s m n t (Submission o) r h lawful e = submission_sound m (s.rule o.dial) (submit o (s.rule o.dial) m.next_job s.max_jobs t) n r (λ j. decision.submitted o (s.rule o.dial) m.next_job s.max_jobs t j lawful) h e
@@ -187,6 +194,7 @@ act_sound s m n t (Mark modem down) r h lawful e = marked_by m modem down (has_m
 act_sound s m n t (Next modem) r h lawful e = given_sound s m t modem n r h (given_is s m t modem n r h e)
 act_sound s m n t (OnGrant a report) r h lawful e = on_grant_sound s m t a report (grant_numbered a m) n r refl h e
 act_sound s m n t (GiveUp floor) r h lawful e = subst (Kept m) (taken_same m n _ r e).0 (kept_of m h)
+act_sound s m n t (Purge before) r h lawful e = purged_by m before (nat_lt t before) n r h e
 
 -- so does a step
 pub step_sound : (s : Settings) (m n : Queue) (t : ℕ) (ask : Ask) (r : Reply) → Sound m → IsLawfulAsk ask → step s m t ask ≡ Taken n r → Sound n

@@ -1,17 +1,19 @@
 -- The times of the jobs after a change.
-use Rattle.std.proofs.Common.{◌≡◌, ◌∙◌, ◌&&◌, ◌++◌, inl, inr, ℕ, Bool, true, false, not, cond, List, [], ◌∷◌, length, map, ap, ap₂, refl, subst, sym}
-use Rattle.std.specs.Prelude.{⊤, Option, Some, drop}
+use Rattle.std.proofs.Common.{◌≡◌, ◌≤◌, ◌∙◌, ◌&&◌, ◌++◌, inl, inr, ℕ, suc, Bool, true, false, not, cond, List, [], ◌∷◌, length, map, ap, ap₂, refl, subst, sym, arith}
+use Rattle.std.specs.Prelude.{⊤, Option, Some, drop, filter}
+use Rattle.std.proofs.Math.ListN.{drop_of_length-le}
 use Rattle.std.proofs.lemmas.Bool.{cond_both, true≢false}
+use Rattle.std.proofs.lemmas.List.{append-nil}
 use Rattle.fax_job.specs.declared.refusal.Refusal.{Refusal}
 use Rattle.fax_core.specs.Job.{Job}
 use Rattle.fax_core.specs.Machine.{stamped}
 use Rattle.fax_core.specs.Reply.{Keys, Refused, Reply, Step, Taken}
 use Rattle.fax_core.specs.Queue.{Queue, job_numbered}
 use Rattle.fax_core.specs.Sound.{AscendBetween}
-use Rattle.fax_core.specs.Stamp.{came, end_of, ends, stamp}
+use Rattle.fax_core.specs.Stamp.{came, end_of, ends, new_jobs, stamp}
 use Rattle.fax_core.specs.Times.{AreTimed, FitsTimes, has_ended}
 use Rattle.fax_core.specs.declared.times.Times.{Times}
-use Rattle.fax_core.proofs.PlaceLemmas.{In, in_found}
+use Rattle.fax_core.proofs.PlaceLemmas.{In, in_filter, in_found}
 
 -- a change leaves each job in its place, and one that was over is over; others come behind them
 abbrev pub Follows : List Job → List Job → Type 0
@@ -90,6 +92,56 @@ timed_from t m n (j ∷ js) (k ∷ ks) (x ∷ xs) was is follows h =
 
 pub stamp_timed : (t : ℕ) (m n : Queue) → AreFound m m.jobs → AreFound n n.jobs → Follows m.jobs n.jobs → n.times ≡ m.times → AreTimed m.jobs m.times → AreTimed (stamp t m n).jobs (stamp t m n).times
 stamp_timed t m n was is follows same h = timed_from t m n m.jobs n.jobs n.times was is follows (subst (AreTimed m.jobs) (sym same) h)
+
+-- the same of jobs whose numbers ascend
+pub stays_timed : (m n : Queue) → AscendBetween 0 (map (λ j. j.number) m.jobs) m.next_job → AscendBetween 0 (map (λ j. j.number) n.jobs) n.next_job → Follows m.jobs n.jobs → n.times ≡ m.times
+    → (t : ℕ) → AreTimed m.jobs m.times → AreTimed n.jobs (stamp t m n).times
+stays_timed m n was is follows same t h = stamp_timed t m n (all_found m was) (all_found n is) follows same h
+
+-- ---- where jobs leave
+
+-- a job that stays has its times, before those of the others
+one_left : (t : ℕ) (m n : Queue) (p : ℕ → Bool) (j : Job) (x : Times) (js : List Job) (xs : List Times) → job_numbered j.number m ≡ Some j → (p j.number ≡ true → job_numbered j.number n ≡ Some j) → FitsTimes j x
+    → AreTimed js (map (end_of t m n) xs) → (b : Bool) → p j.number ≡ b → AreTimed (cond b (j ∷ js) js) (map (end_of t m n) (cond b (x ∷ xs) xs))
+one_left t m n p j x js xs was is h rest true e = (end_fits t m n j j x was (is e) (λ q. q) refl h, rest)
+one_left t m n p j x js xs was is h rest false e = rest
+
+-- so do all
+left_timed : (t : ℕ) (m n : Queue) (p : ℕ → Bool) (js : List Job) (xs : List Times) → AreFound m js
+    → ((j : Job) → In j js → p j.number ≡ true → job_numbered j.number n ≡ Some j)
+    → AreTimed js xs → AreTimed (filter (λ j. p j.number) js) (map (end_of t m n) (filter (λ x. p x.job) xs))
+left_timed t m n p [] [] was is h = tt
+left_timed t m n p [] (x ∷ xs) was is h = absurd h
+left_timed t m n p (j ∷ js) [] was is h = absurd h
+left_timed t m n p (j ∷ js) (x ∷ xs) was is h =
+    let jobs : List Job = filter (λ k. p k.number) js in
+    let times : List Times = filter (λ y. p y.job) xs in
+    let rest = left_timed t m n p js xs was.1 (λ k i. is k (inr i)) h.1 in
+    subst (λ (b : Bool). AreTimed (cond (p j.number) (j ∷ jobs) jobs) (map (end_of t m n) (cond b (x ∷ times) times))) (sym (ap p h.0.job))
+    (one_left t m n p j x jobs times was.0 (is j (inl refl)) h.0 rest (p j.number) refl)
+
+-- no more are left than there were
+pub left_short : {X : Type 0} (p : X → Bool) (xs : List X) → length (filter p xs) ≤ length xs
+left_short p [] = omega arith
+left_short p (x ∷ xs) = one (p x) (left_short p xs)
+  where
+    one : (b : Bool) → length (filter p xs) ≤ length xs → length (cond b (x ∷ filter p xs) (filter p xs)) ≤ suc (length xs)
+    one true h = omega (arith, h)
+    one false h = omega (arith, h)
+
+-- so no job is new, and all have their times
+pub leaves_timed : (m n : Queue) (p : ℕ → Bool) → n.jobs ≡ filter (λ j. p j.number) m.jobs → n.times ≡ filter (λ x. p x.job) m.times
+    → AscendBetween 0 (map (λ j. j.number) m.jobs) m.next_job → AscendBetween 0 (map (λ j. j.number) n.jobs) n.next_job
+    → (t : ℕ) → AreTimed m.jobs m.times → AreTimed n.jobs (stamp t m n).times
+leaves_timed m n p jobs times was is t h =
+    let none : new_jobs m n ≡ [] = ap (drop (length m.jobs)) jobs ∙ drop_of_length-le (filter (λ j. p j.number) m.jobs) (left_short (λ j. p j.number) m.jobs) in
+    let here : (j : Job) → In j m.jobs → p j.number ≡ true → job_numbered j.number n ≡ Some j = λ j i e.
+    in_found (λ (k : Job). k.number) 0 n.next_job n.jobs j is (subst (In j) (sym jobs) (in_filter (λ k. p k.number) m.jobs j e i)) in
+    let left = left_timed t m n p m.jobs m.times (all_found m was) here h in
+    let all : (stamp t m n).times ≡ map (end_of t m n) (filter (λ x. p x.job) m.times) = ap₂ (λ (xs : List Times) (ks : List Job). map (end_of t m n) xs ++ map (came t) ks) times none ∙ append-nil _ in
+    subst (λ (xs : List Times). AreTimed n.jobs xs) (sym all) (subst (λ (js : List Job). AreTimed js (map (end_of t m n) (filter (λ x. p x.job) m.times))) (sym jobs) left)
+
+-- ---- steps
 
 -- what is taken with its times is taken without
 pub stamped_taken : (t : ℕ) (m : Queue) (d : Step) (n : Queue) (r : Reply) → stamped t m d ≡ Taken n r → (k : Queue) × (d ≡ Taken k r) × (n ≡ stamp t m k)

@@ -1,6 +1,6 @@
 -- The laws of the machine. They range over all settings, queues, moments and requests. The queue before a step is meant as it is aged at the step's moment.
-use Rattle.std.specs.Prelude.{◌≡◌, ◌≢◌, ◌⊎◌, ℕ, ◌+◌, ◌-◌, ◌<◌, ◌≤◌, Bool, true, List, [], ◌∷◌, ◌++◌, length, Option, Some, is_some, Decides, Ok, IfOk}
-use Rattle.std.specs.List.{range_with_len}
+use Rattle.std.specs.Prelude.{◌≡◌, ◌≢◌, ◌⊎◌, ℕ, ◌+◌, ◌-◌, ◌<◌, ◌≤◌, Bool, true, false, List, [], ◌∷◌, ◌++◌, length, Option, Some, None, is_some, Decides, Ok, IfOk}
+use Rattle.std.specs.List.{AllByRecursion, range_with_len}
 use Rattle.fax_job.specs.Alter.{alter_of}
 use Rattle.fax_job.specs.Job.{is_lawful}
 use Rattle.fax_value.specs.Limits.{last_next}
@@ -17,20 +17,22 @@ use Rattle.fax_core.specs.declared.report.Report.TheVariants.{Page}
 use Rattle.fax_core.specs.Ageing.{aged}
 use Rattle.fax_core.specs.Ask.{IsLawfulAsk}
 use Rattle.fax_core.specs.declared.ask.Ask.{Ask}
-use Rattle.fax_core.specs.declared.ask.Ask.TheVariants.{Bring, Next, OnGrant}
+use Rattle.fax_core.specs.declared.ask.Ask.TheVariants.{Bring, Next, OnGrant, Purge}
 use Rattle.fax_core.specs.Best.{MayGo, IsBest}
 use Rattle.fax_core.specs.Clock.{decided_at}
 use Rattle.fax_core.specs.Decisions.{JobAndGrant, suspend, resume, kill, alter, grant, call, page, outcome}
 use Rattle.fax_core.specs.Fits.{fits}
 use Rattle.fax_core.specs.Job.{Job, HasPages, job_of, fields_of}
 use Rattle.fax_core.specs.Machine.{step}
-use Rattle.fax_core.specs.Queue.{Queue, grant_numbered}
+use Rattle.fax_core.specs.Queue.{Queue, grant_numbered, job_numbered, times_numbered}
 use Rattle.fax_core.specs.Refusals.{may_meet, goes_with}
 use Rattle.fax_core.specs.Reply.{Reply, Handed, Submitted, Brought, NoneToSend, Given, Keys, HeldGrant, Taken, Refused}
-use Rattle.fax_core.specs.Run.{Request, decided, queue_after, AreLawful}
+use Rattle.fax_core.specs.Run.{Request, decided, left_by, queue_after, AreLawful}
 use Rattle.fax_core.specs.Settings.{Settings}
 use Rattle.fax_core.specs.Sound.{Fits, IsJob, IsOpen, Sound}
 use Rattle.fax_core.specs.State.{state, is_due, state_number}
+use Rattle.fax_core.specs.Times.{has_ended}
+use Rattle.fax_core.specs.declared.times.Times.{Times}
 use Rattle.fax_core.specs.declared.state.State.TheVariants.{Ready}
 
 -- ---- soundness
@@ -110,20 +112,25 @@ pub record HasSent (m : Queue) (n : ℕ) (pages : List ℕ) : Type 0 where
   pub more : List ℕ
   pub begins : job.sent ≡ pages ++ more
 
--- no step takes a page from those that are sent
+-- the job of a number has left for good: it isn't there, and no new job gets its number
+pub record IsGone (m : Queue) (n : ℕ) : Type 0 where
+  pub absent : job_numbered n m ≡ None
+  pub given : n < m.next_job
+
+-- no step takes a page from those that are sent, unless their job leaves
 abbrev pub StepsKeepSent : Type 0
 StepsKeepSent =
     (s : Settings) (m n : Queue) (t : ℕ) (ask : Ask) (reply : Reply) (number : ℕ) (j : Job)
     → Sound m
     → step s m t ask ≡ Taken n reply
-    → IsJob m number j → HasSent n number j.sent
+    → IsJob m number j → HasSent n number j.sent ⊎ IsGone n number
 
 -- nor does any run
 abbrev pub RunsKeepSent : Type 0
 RunsKeepSent =
     (s : Settings) (m : Queue) (rs : List Request) (number : ℕ) (j : Job)
     → Sound m → AreLawful rs
-    → IsJob m number j → HasSent (queue_after s m rs) number j.sent
+    → IsJob m number j → HasSent (queue_after s m rs) number j.sent ⊎ IsGone (queue_after s m rs) number
 
 -- a page that was confirmed is in no grant that its job gets after whatever requests: it lies before the grant's first page
 abbrev pub PagesAreGrantedNoMore : Type 0
@@ -154,6 +161,84 @@ PagesRise =
     → step s (queue_after s n rs) u (OnGrant other (Page later)) ≡ Taken l answer
     → grant_numbered grant m ≡ Some g → grant_numbered other (queue_after s n rs) ≡ Some h → h.job ≡ g.job
     → page < later
+
+-- ---- jobs that leave
+
+-- there is a job of that number
+abbrev pub IsThere : Queue → ℕ → Type 0
+IsThere m number = (j : Job) × IsJob m number j
+
+-- a job leaves by a purge: it is over, and ended before the purge's moment, which isn't yet to come
+pub record LeavesByPurge (m : Queue) (t : ℕ) (ask : Ask) (number : ℕ) (j : Job) : Type 0 where
+  pub before : ℕ
+  pub purge : ask ≡ Purge before
+  pub past : before ≤ t
+  pub over : has_ended j.phase ≡ true
+  pub times : Times
+  pub its : times_numbered number m ≡ Some times
+  pub ended : times.ended < before
+
+-- a job that a step takes out leaves so
+abbrev pub OnlyTheOverLeave : Type 0
+OnlyTheOverLeave =
+    (s : Settings) (m n : Queue) (t : ℕ) (ask : Ask) (reply : Reply) (number : ℕ) (j : Job)
+    → Sound m
+    → step s m t ask ≡ Taken n reply
+    → IsJob (aged t m) number j → job_numbered number n ≡ None
+    → LeavesByPurge (aged t m) t ask number j
+
+-- so does one with one of these requests
+abbrev pub LeavesIn : Settings → Queue → List Request → ℕ → Type 0
+LeavesIn s m [] number = ⊥
+LeavesIn s m (r ∷ rs) number =
+    ((j : Job) × LeavesByPurge (aged (decided_at m.clock r.moment) m) (decided_at m.clock r.moment) r.ask number j)
+    ⊎ LeavesIn s (left_by m (decided s m r)) rs number
+
+-- after every run a job is there, or left with a purge
+abbrev pub RunsKeepJobs : Type 0
+RunsKeepJobs =
+    (s : Settings) (m : Queue) (rs : List Request) (number : ℕ)
+    → Sound m → AreLawful rs
+    → IsThere m number → IsThere (queue_after s m rs) number ⊎ LeavesIn s m rs number
+
+-- a job that isn't over loses no grant
+abbrev pub GrantsStay : Type 0
+GrantsStay =
+    (s : Settings) (m n : Queue) (t : ℕ) (ask : Ask) (reply : Reply) (number : ℕ) (g : Grant) (j : Job)
+    → Sound m
+    → step s m t ask ≡ Taken n reply
+    → grant_numbered number m ≡ Some g → IsJob (aged t m) g.job j → has_ended j.phase ≡ false
+    → (h : Grant) × (grant_numbered number n ≡ Some h) × (h.job ≡ g.job)
+
+-- each grant's job is there
+abbrev pub GrantsHaveJobs : Queue → Type 0
+GrantsHaveJobs m = (a : ℕ) (g : Grant) → grant_numbered a m ≡ Some g → IsThere m g.job
+
+-- so it is after a step
+abbrev pub StepsKeepGrantsWithJobs : Type 0
+StepsKeepGrantsWithJobs = (s : Settings) (m n : Queue) (t : ℕ) (ask : Ask) (reply : Reply) → Sound m → GrantsHaveJobs m → step s m t ask ≡ Taken n reply → GrantsHaveJobs n
+
+-- and after every run
+abbrev pub RunsKeepGrantsWithJobs : Type 0
+RunsKeepGrantsWithJobs = (s : Settings) (m : Queue) (rs : List Request) → Sound m → AreLawful rs → GrantsHaveJobs m → GrantsHaveJobs (queue_after s m rs)
+
+-- the number of a job that came in, by the reply
+abbrev pub new_job_in : Reply → Option ℕ
+new_job_in (Submitted job) = Some job
+new_job_in (Brought job state) = Some job
+new_job_in other = None
+
+-- such a job is there
+abbrev pub NewJobsAreThere : Type 0
+NewJobsAreThere =
+    (s : Settings) (m n : Queue) (t : ℕ) (ask : Ask) (reply : Reply) (number : ℕ)
+    → Sound m
+    → step s m t ask ≡ Taken n reply
+    → new_job_in reply ≡ Some number → IsThere n number
+
+-- what has left stays away
+abbrev pub GoneStaysGone : Type 0
+GoneStaysGone = (s : Settings) (m : Queue) (rs : List Request) (number : ℕ) → IsGone m number → IsGone (queue_after s m rs) number
 
 -- ---- refusals
 
@@ -250,6 +335,22 @@ RequestsSetTheClock = (s : Settings) (m n : Queue) (r : Request) (reply : Reply)
 -- the clock never goes back
 abbrev pub ClocksGoForward : Type 0
 ClocksGoForward = (s : Settings) (m : Queue) (rs : List Request) → m.clock ≤ (queue_after s m rs).clock
+
+-- no job came in later than that, or ended
+abbrev pub ArePast : ℕ → List Times → Type 0
+ArePast t xs = AllByRecursion (λ x. (x.submitted ≤ t) × (x.ended ≤ t)) xs
+
+-- a taken step leaves no times that are yet to come, where it found none
+abbrev pub StepsKeepTimesPast : Type 0
+StepsKeepTimesPast =
+    (s : Settings) (m n : Queue) (t : ℕ) (ask : Ask) (reply : Reply)
+    → m.clock ≤ t → ArePast m.clock m.times
+    → step s m t ask ≡ Taken n reply
+    → ArePast n.clock n.times
+
+-- nor does any run
+abbrev pub RunsKeepTimesPast : Type 0
+RunsKeepTimesPast = (s : Settings) (m : Queue) (rs : List Request) → ArePast m.clock m.times → ArePast (queue_after s m rs).clock (queue_after s m rs).times
 
 -- ---- records of code
 

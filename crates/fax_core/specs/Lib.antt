@@ -12,6 +12,7 @@ pub mod State
 pub mod Best
 pub mod Decisions
 pub mod Import
+pub mod Purge
 pub mod Machine
 pub mod Sound
 pub mod Fits

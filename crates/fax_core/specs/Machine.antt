@@ -7,7 +7,7 @@ use Rattle.fax_job.specs.declared.refusal.Refusal.TheVariants as refusal
 use Rattle.fax_core.specs.declared.grants.Grant.{Grant}
 use Rattle.fax_core.specs.Ageing.{aged}
 use Rattle.fax_core.specs.declared.ask.Ask.{Ask}
-use Rattle.fax_core.specs.declared.ask.Ask.TheVariants.{Submission, Bring, OnJob, Mark, Next, OnGrant, GiveUp}
+use Rattle.fax_core.specs.declared.ask.Ask.TheVariants.{Submission, Bring, OnJob, Mark, Next, OnGrant, GiveUp, Purge}
 use Rattle.fax_core.specs.declared.ask.JobAsk.{JobAsk}
 use Rattle.fax_core.specs.declared.report.Report.{Report}
 use Rattle.fax_core.specs.declared.report.Report.TheVariants.{Call, Page, Outcome}
@@ -15,6 +15,7 @@ use Rattle.fax_core.specs.Best.{best}
 use Rattle.fax_core.specs.Decisions.{JobAndGrant, submit, job_asked, grant, grant_reported, stops}
 use Rattle.fax_core.specs.Import.{bring}
 use Rattle.fax_core.specs.Job.{Job}
+use Rattle.fax_core.specs.Purge.{purged}
 use Rattle.fax_core.specs.Queue.{Queue, open_grants, job_numbered, grant_numbered}
 use Rattle.fax_core.specs.Reply.{Handed, Reply, Submitted, Brought, Stands, Marked, NoneToSend, Given, Called, Confirmed, Floored, Keys, NoKeys, Notice, HeldGrant, Pages, Step, Taken, Refused}
 use Rattle.fax_core.specs.Settings.{Rule, Settings, has_modem}
@@ -171,6 +172,7 @@ act s m t (Mark modem down) = marked s m modem down
 act s m t (Next modem) = given_to s m t modem
 act s m t (OnGrant n report) = on_grant s m t report (grant_numbered n m)
 act s m t (GiveUp floor) = Taken m (Floored floor)
+act s m t (Purge before) = purged m t before
 
 -- the times of the jobs follow a change
 abbrev pub stamped : ℕ → Queue → Step → Step

@@ -5,7 +5,7 @@ use Rattle.fax_job.specs.declared.job.Phase.TheVariants as phase
 use Rattle.fax_job.specs.declared.job.Wish.TheVariants as wish
 use Rattle.fax_job.specs.declared.order.Order.{Order}
 use Rattle.fax_job.specs.declared.refusal.Refusal.{Refusal}
-use Rattle.fax_job.specs.declared.refusal.Refusal.TheVariants.{NoJob, NoModem, NoGrant, Rejected, TooManyPages, JobOver, JobActive, NotSuspended, LimitReached, ModemDown, ModemBusy, GrantClosed, CallKnown, NotConnected, PageOrder, CallMissing, PagesMismatch, PagesLeft, Full}
+use Rattle.fax_job.specs.declared.refusal.Refusal.TheVariants.{NoJob, NoModem, NoGrant, Rejected, TooManyPages, JobOver, JobActive, NotSuspended, LimitReached, ModemDown, ModemBusy, GrantClosed, CallKnown, NotConnected, PageOrder, CallMissing, PagesMismatch, PagesLeft, Full, PurgeHigh}
 use Rattle.fax_core.specs.Ageing.{aged}
 use Rattle.fax_core.specs.Decisions.{altered}
 use Rattle.fax_core.specs.Import.{is_ended}
@@ -16,7 +16,7 @@ use Rattle.fax_core.specs.Reply.{Keys, Refused}
 use Rattle.fax_core.specs.Settings.{Settings, has_modem}
 use Rattle.fax_core.specs.Sound.{IsOpen, Sound}
 use Rattle.fax_core.specs.declared.ask.Ask.{Ask}
-use Rattle.fax_core.specs.declared.ask.Ask.TheVariants.{Submission, Bring, OnJob, Mark, Next, OnGrant, GiveUp}
+use Rattle.fax_core.specs.declared.ask.Ask.TheVariants.{Submission, Bring, OnJob, Mark, Next, OnGrant, GiveUp, Purge}
 use Rattle.fax_core.specs.declared.ask.JobAsk.{JobAsk}
 use Rattle.fax_core.specs.declared.ask.JobAsk.TheVariants.{Suspend, Resume, Alter}
 use Rattle.fax_core.specs.declared.grants.Grant.{Grant}
@@ -107,6 +107,13 @@ WhenReported m n report NoGrant = grant_numbered n m ≡ None
 WhenReported m n report GrantClosed = OfGrant m n (λ g. g.is_open ≡ false)
 WhenReported m n report other = OfBoth m n (Contradicts report other)
 
+-- ---- purges
+
+-- the moment before which jobs are to have ended is yet to come
+abbrev pub WhenPurged : ℕ → ℕ → Refusal → Type 0
+WhenPurged t before PurgeHigh = t < before
+WhenPurged t before other = ⊥
+
 -- ---- each request
 
 abbrev pub When : Settings → Queue → ℕ → Ask → Refusal → Type 0
@@ -117,6 +124,7 @@ When s m t (Mark modem down) refusal = WhenMarked s modem refusal
 When s m t (Next modem) refusal = WhenNext s m modem refusal
 When s m t (OnGrant n report) refusal = WhenReported m n report refusal
 When s m t (GiveUp floor) refusal = ⊥
+When s m t (Purge before) refusal = WhenPurged t before refusal
 
 -- a refusal is met only for its reason
 abbrev pub RefusalsHaveReasons : Type 0

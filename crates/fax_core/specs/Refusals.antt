@@ -4,7 +4,7 @@ use Rattle.std.specs.List.{list_any}
 use Rattle.fax_job.specs.declared.refusal.Refusal.{Refusal}
 use Rattle.fax_job.specs.Refusal.{refusal_number}
 use Rattle.fax_core.specs.declared.ask.Ask.{Ask}
-use Rattle.fax_core.specs.declared.ask.Ask.TheVariants.{Submission, Bring, OnJob, Mark, Next, OnGrant, GiveUp}
+use Rattle.fax_core.specs.declared.ask.Ask.TheVariants.{Submission, Bring, OnJob, Mark, Next, OnGrant, GiveUp, Purge}
 use Rattle.fax_core.specs.declared.ask.JobAsk.{JobAsk}
 use Rattle.fax_core.specs.declared.ask.JobAsk.TheVariants.{Suspend, Resume, Kill, Alter}
 use Rattle.fax_core.specs.declared.report.Report.{Report}
@@ -33,6 +33,7 @@ refusals_of (Mark modem down) = 9 ∷ []
 refusals_of (Next modem) = 9 ∷ 17 ∷ 18 ∷ 26 ∷ []
 refusals_of (OnGrant grant report) = 10 ∷ 19 ∷ refusals_on_grant report
 refusals_of (GiveUp floor) = []
+refusals_of (Purge before) = 30 ∷ []
 
 -- the refusal is among them
 abbrev pub may_meet : Ask → Refusal → Bool

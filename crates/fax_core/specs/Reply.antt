@@ -30,6 +30,8 @@ pub data Reply : Type 0 where
   Confirmed : (npages : ℕ) (stop : Bool) → Reply
   -- through which number the client has given up its replies
   Floored : (floor : ℕ) → Reply
+  -- how many jobs left
+  Purged : (jobs : ℕ) → Reply
 
 -- what is told with a refusal
 pub data Keys : Type 0 where

@@ -22,7 +22,7 @@ end_of t before after = ended_where t (λ n. ends (job_numbered n before) (job_n
 abbrev pub came : ℕ → Job → Times
 came t j = record { job = j.number; submitted = t; ended = if has_ended j.phase then t else 0 }
 
--- the jobs behind those that were there
+-- the jobs behind those that were there; where jobs leave, none comes
 abbrev pub new_jobs : Queue → Queue → List Job
 new_jobs before after = drop (length before.jobs) after.jobs
 

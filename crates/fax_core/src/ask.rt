@@ -1,7 +1,7 @@
 //! What is asked of the queue.
 
 use crate::report::Report;
-use fax_job::{Alter, Import, Name, Order, RequestNumber};
+use fax_job::{Alter, Import, Moment, Name, Order, RequestNumber};
 
 /// What is asked of the queue. Numbers of jobs and grants are as they were written.
 #[derive(Drop)]
@@ -19,6 +19,8 @@ pub enum Ask {
     OnGrant { grant: u64, report: Report },
     /// The client has no use for its replies through this number. It is the client's floor from now on.
     GiveUp { upto: RequestNumber },
+    /// Jobs that ended before that moment are to leave.
+    Purge { before: Moment },
 }
 
 /// What a client asks of a job.

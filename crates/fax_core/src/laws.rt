@@ -3,7 +3,7 @@
 //! Each function here does nothing: its contract is the law, for all settings, queues, moments and
 //! requests. The statements stand in `specs/Laws.antt`.
 
-ghost use Rattle.fax_core.specs.Laws.{StepsStaySound, RunsStaySound, RunsHoldOnce, GivenJobsAreFree, PageReportsConfirm, StepsKeepSent, RunsKeepSent, PagesAreGrantedNoMore, BroughtPagesAreNotGranted, PagesRise, RefusalsAreMet, KeysGoWithRefusals, BusyModemsAreTold, BestIsGiven, OneIsBest, NothingIsLeftOut, StepsNumberNext, NextNumbersRise, ReadyJobsAreDue, TakenStepsSetTheClock, RequestsSetTheClock, ClocksGoForward, RecordsAreJobs, JobsAreRecords, FitsIsDecided, RequestsKeepRecords, AlterationsKeepRecords, GrantsKeepRecords, ReportsKeepRecords};
+ghost use Rattle.fax_core.specs.Laws.{StepsStaySound, RunsStaySound, RunsHoldOnce, GivenJobsAreFree, PageReportsConfirm, StepsKeepSent, RunsKeepSent, PagesAreGrantedNoMore, BroughtPagesAreNotGranted, PagesRise, OnlyTheOverLeave, GrantsStay, StepsKeepGrantsWithJobs, RunsKeepGrantsWithJobs, NewJobsAreThere, RunsKeepJobs, GoneStaysGone, RefusalsAreMet, KeysGoWithRefusals, BusyModemsAreTold, BestIsGiven, OneIsBest, NothingIsLeftOut, StepsNumberNext, NextNumbersRise, ReadyJobsAreDue, TakenStepsSetTheClock, RequestsSetTheClock, ClocksGoForward, StepsKeepTimesPast, RunsKeepTimesPast, RecordsAreJobs, JobsAreRecords, FitsIsDecided, RequestsKeepRecords, AlterationsKeepRecords, GrantsKeepRecords, ReportsKeepRecords};
 ghost use Rattle.fax_core.specs.Import.{ReadImportsAreLawful};
 ghost use Rattle.fax_core.specs.Reasons.{RefusalsHaveReasons};
 ghost use Rattle.fax_core.specs.Queue.{empty_queue};
@@ -28,7 +28,7 @@ pub fn one_modem_one_job()
 {}
 
 /// A page report that is taken moves the first page that is left to the end of those sent, and no step
-/// takes a page from those sent. So a page that was confirmed is in no grant that its job gets later,
+/// takes a page from those sent, unless the job leaves. So a page that was confirmed is in no grant that its job gets later,
 /// whatever was asked in between, and isn't confirmed again. A page that came in as sent with its job is in
 /// no grant either.
 pub fn no_page_twice()
@@ -38,6 +38,24 @@ pub fn no_page_twice()
     ensures granted { PagesAreGrantedNoMore }
     ensures brought { BroughtPagesAreNotGranted }
     ensures rise { PagesRise }
+{}
+
+/// A job that a step takes out is over, ended before the moment that the step's request names, and that
+/// request is a purge. A job that isn't over loses no grant, and one that leaves keeps none: each grant's job is
+/// there, after every run from a queue in which it was.
+pub fn only_the_over_leave()
+    ensures jobs { OnlyTheOverLeave }
+    ensures grants { GrantsStay }
+    ensures step { StepsKeepGrantsWithJobs }
+    ensures run { RunsKeepGrantsWithJobs }
+{}
+
+/// A job that a taken submission or import made is in the queue. A job that is there is there after every
+/// run, unless a purge of the run took it out. One that left doesn't come back: no new job gets its number.
+pub fn jobs_stay()
+    ensures made { NewJobsAreThere }
+    ensures stay { RunsKeepJobs }
+    ensures gone { GoneStaysGone }
 {}
 
 /// A refused request meets one of the refusals that are listed for it, and only for its reason; what is told
@@ -66,11 +84,13 @@ pub fn numbers()
 {}
 
 /// A taken step sets the clock to its moment, the later of the request's and the clock's, so the clock
-/// never goes back.
+/// never goes back. No job came in later than the clock, or ended.
 pub fn the_clock()
     ensures step { TakenStepsSetTheClock }
     ensures request { RequestsSetTheClock }
     ensures run { ClocksGoForward }
+    ensures times { StepsKeepTimesPast }
+    ensures runs { RunsKeepTimesPast }
 {}
 
 /// A record of code keeps the number of pages sent, a job the lists of those sent and those left: each is

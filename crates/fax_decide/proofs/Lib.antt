@@ -8,6 +8,7 @@ mod EndLemmas
 mod JobLemmas
 mod NewJobLemmas
 mod TimesLemmas
+mod PurgeLemmas
 mod ViewLemmas
 mod NewestLemmas
 mod ReportLemmas

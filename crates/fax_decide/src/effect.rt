@@ -26,6 +26,8 @@ pub enum Effect {
     Reported { job: Job, grant: Grant },
     /// The job is now this one, and the grant of that number is closed.
     Closed { job: Job, grant: u32 },
+    /// The jobs of these numbers leave, with their times and grants.
+    Purged { jobs: Vec<u32> },
 }
 
 // By hand, so that a proof lets it go in one step.
@@ -38,7 +40,8 @@ impl Drop for Effect {
             | Effect::Marked { modem: _, down: _ }
             | Effect::NewGrant { job: _, grant: _ }
             | Effect::Reported { job: _, grant: _ }
-            | Effect::Closed { job: _, grant: _ } => {}
+            | Effect::Closed { job: _, grant: _ }
+            | Effect::Purged { jobs: _ } => {}
         }
     }
 }
@@ -88,6 +91,7 @@ impl Effect {
                 work.put_change(job, t)?;
                 work.close_grant(*grant)
             }
+            Effect::Purged { jobs } => work.purge(jobs.as_slice()),
         }
     }
 }

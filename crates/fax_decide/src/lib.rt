@@ -17,6 +17,7 @@ mod modem_list;
 mod modems;
 mod names;
 mod office;
+mod purge;
 mod records;
 mod reports;
 mod request;

@@ -14,6 +14,7 @@ use crate::import::decide_import;
 use crate::jobs::decide_on_job;
 use crate::modems::decide_mark;
 use crate::office::Office;
+use crate::purge::decide_purge;
 use crate::reports::decide_report;
 use crate::submission::decide_submission;
 use fax_core::Ask;
@@ -46,5 +47,6 @@ pub fn decide<S: Alter>(
         Ask::Next { modem } => decide_next(store, office, alloc, modem, meta.next_grant, t),
         Ask::OnGrant { grant, report } => decide_report(store, office, alloc, grant, report, t),
         Ask::GiveUp { upto } => decide_floor(alloc, upto),
+        Ask::Purge { before } => decide_purge(store, alloc, before, t),
     }
 }

@@ -7,7 +7,7 @@ use Rattle.fax_job.specs.declared.order.OrderFault.TheVariants as order
 use Rattle.fax_job.specs.declared.refusal.BodyFault.{BodyFault}
 use Rattle.fax_job.specs.declared.refusal.BodyFault.TheVariants.{Line, Order, BadJson, BadField}
 use Rattle.fax_job.specs.declared.refusal.Refusal.{Refusal}
-use Rattle.fax_job.specs.declared.refusal.Refusal.TheVariants.{BadHttp, TooLarge, NoRoute, BadClient, BadNumber, BadBody, NumberReused, NoJob, NoModem, NoGrant, Rejected, TooManyPages, JobOver, JobActive, NotSuspended, LimitReached, ModemDown, ModemBusy, GrantClosed, CallKnown, NotConnected, PageOrder, CallMissing, PagesMismatch, PagesLeft, Full, Unavailable, GivenUp, FloorHigh}
+use Rattle.fax_job.specs.declared.refusal.Refusal.TheVariants.{BadHttp, TooLarge, NoRoute, BadClient, BadNumber, BadBody, NumberReused, NoJob, NoModem, NoGrant, Rejected, TooManyPages, JobOver, JobActive, NotSuspended, LimitReached, ModemDown, ModemBusy, GrantClosed, CallKnown, NotConnected, PageOrder, CallMissing, PagesMismatch, PagesLeft, Full, Unavailable, GivenUp, FloorHigh, PurgeHigh}
 
 -- the words that replies have for faults
 abbrev pub line_word : LineKind → List ℕ
@@ -83,6 +83,7 @@ refusal_number Full = 26
 refusal_number Unavailable = 27
 refusal_number GivenUp = 28
 refusal_number FloorHigh = 29
+refusal_number PurgeHigh = 30
 
 abbrev pub refusal_word : Refusal → List ℕ
 refusal_word BadHttp = codes "bad-http"
@@ -114,6 +115,7 @@ refusal_word Full = codes "full"
 refusal_word Unavailable = codes "unavailable"
 refusal_word GivenUp = codes "given-up"
 refusal_word FloorHigh = codes "floor-high"
+refusal_word PurgeHigh = codes "purge-high"
 
 -- RFC 9110, section 15
 abbrev pub refusal_status : Refusal → ℕ
@@ -146,6 +148,7 @@ refusal_status Full = 507
 refusal_status Unavailable = 503
 refusal_status GivenUp = 410
 refusal_status FloorHigh = 409
+refusal_status PurgeHigh = 409
 
 -- want of memory is no fault of the body
 abbrev pub line_refusal : ℕ → LineKind → Refusal

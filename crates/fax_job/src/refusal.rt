@@ -62,6 +62,8 @@ pub enum Refusal {
     GivenUp,
     /// The replies to be given up aren't all of earlier numbers.
     FloorHigh,
+    /// The moment before which jobs are to be purged is later than now.
+    PurgeHigh,
 }
 
 impl fmt::Display for Refusal {
@@ -118,7 +120,7 @@ impl BodyFault {
 }
 
 impl Refusal {
-    /// The refusal's number, from 1 to 29.
+    /// The refusal's number, from 1 to 30.
     pub fn number(self) -> u8
         ensures { result ≡ refusal_number self }
     {
@@ -152,6 +154,7 @@ impl Refusal {
             Refusal::Unavailable => 27,
             Refusal::GivenUp => 28,
             Refusal::FloorHigh => 29,
+            Refusal::PurgeHigh => 30,
         }
     }
 
@@ -189,6 +192,7 @@ impl Refusal {
             Refusal::Unavailable => "unavailable",
             Refusal::GivenUp => "given-up",
             Refusal::FloorHigh => "floor-high",
+            Refusal::PurgeHigh => "purge-high",
         }
     }
 
@@ -215,7 +219,8 @@ impl Refusal {
             | Refusal::CallMissing
             | Refusal::PagesMismatch
             | Refusal::PagesLeft
-            | Refusal::FloorHigh => 409,
+            | Refusal::FloorHigh
+            | Refusal::PurgeHigh => 409,
             Refusal::GivenUp => 410,
             Refusal::Full => 507,
             Refusal::Unavailable => 503,

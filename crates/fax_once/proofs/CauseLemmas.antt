@@ -15,7 +15,7 @@ use Rattle.fax_ask.specs.Response.{Response, reply_status}
 use Rattle.fax_ask.specs.declared.ask.Ask.TheVariants.{Step}
 use Rattle.fax_ask.specs.declared.method.Method.{Method}
 use Rattle.fax_ask.specs.declared.request.Request.{Request as Route}
-use Rattle.fax_ask.specs.declared.request.Request.TheVariants.{Show, Submit, Import, OnJob, Mark, Next, OnGrant, Floor}
+use Rattle.fax_ask.specs.declared.request.Request.TheVariants.{Show, Submit, Import, OnJob, Mark, Next, OnGrant, Floor, Purge}
 use Rattle.fax_ask.specs.declared.request.Action.{Action}
 use Rattle.fax_ask.specs.declared.request.Action.TheVariants.{Suspend, Resume, Kill, Alter}
 use Rattle.fax_core.specs.Ask.{IsLawfulAsk}
@@ -72,6 +72,7 @@ asked_read (Mark modem down) body ask h = subst IsRead (sym (same_ask h)) tt
 asked_read (Next modem) body ask h = subst IsRead (sym (same_ask h)) tt
 asked_read (OnGrant grant kind) body ask h = subst IsRead (sym (same_ask h.2)) tt
 asked_read Floor body ask h = subst IsRead (sym (same_ask h.2)) tt
+asked_read Purge body ask h = subst IsRead (sym (same_ask h.2)) tt
 
 -- so what a method, a path and a body ask for was read
 pub ask_read : (method : Method) (path body : List ℕ) (ask : Ask) → IsAsk method path body (Step ask) → IsRead ask

@@ -6,7 +6,7 @@ use Rattle.fax_job.specs.declared.refusal.Refusal.{Refusal}
 use Rattle.fax_job.specs.declared.refusal.Refusal.TheVariants.{BadBody, NoRoute}
 use Rattle.fax_job.specs.declared.refusal.BodyFault.{BodyFault}
 use Rattle.fax_ask.specs.declared.request.Request.{Request}
-use Rattle.fax_ask.specs.declared.request.Request.TheVariants.{Show, Submit, Import, OnJob, Mark, Next, OnGrant, Floor}
+use Rattle.fax_ask.specs.declared.request.Request.TheVariants.{Show, Submit, Import, OnJob, Mark, Next, OnGrant, Floor, Purge}
 use Rattle.fax_ask.specs.declared.request.Action.TheVariants.{Suspend, Resume, Kill, Alter}
 use Rattle.fax_ask.specs.Ask.{Asks, IsAsk, IsBodyRefusal, IsRefused}
 use Rattle.fax_ask.specs.declared.ask.Ask.{Ask as Asked}
@@ -42,6 +42,7 @@ seen (Mark n down) body what is = absurd cc
 seen (Next n) body what is = absurd cc
 seen (OnGrant n kind) body what is = absurd (let e = is.2 in cc)
 seen Floor body what is = absurd (let e = is.2 in cc)
+seen Purge body what is = absurd (let e = is.2 in cc)
 
 -- where the body asks for a step, the request asks for no view
 unseen : (r : Request) (body : List ℕ) (ask : Ask) → Asks r body (Step ask) → seen_by r ≡ None
@@ -172,6 +173,7 @@ no_body_fault (Mark n down) body is = absurd (let no = is in cc)
 no_body_fault (Next n) body is = absurd (let no = is in cc)
 no_body_fault (OnGrant n kind) body is = is
 no_body_fault Floor body is = is
+no_body_fault Purge body is = is
 
 -- an arrival with no route is refused so
 pub unrouted : (s : Settings) (a : Arrival) (m : Queue) (k : Ledger) (reply : Response) → IsRefused a.method a.path.now a.body.now NoRoute → reply ≡ refused_response NoRoute NoKeys → IsVerdict s a m k (Told reply)

@@ -1,12 +1,12 @@
 -- Which requests bring a job in: an import, and its job has the next number.
 use Rattle.std.proofs.Common.{◌≡◌, ℕ, ◌<◌, Bool, true, false, cond, ◌&&◌, eqb, List, Option, Some, None, Ok, Err, refl, sym, ap, ◌∙◌, arith}
-use Rattle.std.specs.Prelude.{Result}
+use Rattle.std.specs.Prelude.{Result, length, nat_lt}
 use Rattle.fax_job.specs.declared.refusal.Refusal.{Refusal}
 use Rattle.fax_job.specs.declared.refusal.Refusal.TheVariants as refusal
 use Rattle.fax_core.specs.declared.grants.Grant.{Grant}
 use Rattle.fax_core.specs.Ageing.{aged}
 use Rattle.fax_core.specs.declared.ask.Ask.{Ask}
-use Rattle.fax_core.specs.declared.ask.Ask.TheVariants.{Submission, Bring, OnJob, Mark, Next, OnGrant, GiveUp}
+use Rattle.fax_core.specs.declared.ask.Ask.TheVariants.{Submission, Bring, OnJob, Mark, Next, OnGrant, GiveUp, Purge}
 use Rattle.fax_core.specs.declared.ask.JobAsk.{JobAsk}
 use Rattle.fax_core.specs.declared.report.Report.{Report}
 use Rattle.fax_core.specs.declared.report.Report.TheVariants as report
@@ -14,8 +14,9 @@ use Rattle.fax_core.specs.Decisions.{JobAndGrant, job_asked, submit}
 use Rattle.fax_core.specs.Import.{bring}
 use Rattle.fax_core.specs.Job.{Job}
 use Rattle.fax_core.specs.Machine.{act, brought_in, changed, on_grant, on_job, report_reply, step, submitted, with_both, with_job, with_mark, with_new_job}
+use Rattle.fax_core.specs.Purge.{leaving, without_jobs}
 use Rattle.fax_core.specs.Queue.{Queue, grant_numbered, job_numbered}
-use Rattle.fax_core.specs.Reply.{Marked, NoKeys, Refused, Reply, Taken}
+use Rattle.fax_core.specs.Reply.{Marked, NoKeys, Purged, Refused, Reply, Taken}
 use Rattle.fax_core.specs.Settings.{Rule, Settings, has_modem}
 use Rattle.fax_core.specs.Sound.{Sound}
 use Rattle.fax_core.proofs.ImportLemmas.{bring_counts}
@@ -58,6 +59,11 @@ mark_brings : (m n : Queue) (modem : List ℕ) (down b : Bool) (r : Reply) → c
 mark_brings m n modem down true r e x = ap (λ (q : Reply). brings q x) (sym (taken_same (with_mark modem down m) n _ r e).1)
 mark_brings m n modem down false r e x = cc
 
+-- nor a purge
+purge_brings : (m n : Queue) (before : ℕ) (b : Bool) (r : Reply) → cond b (Refused refusal.PurgeHigh NoKeys) (Taken (without_jobs (leaving before m) m) (Purged (length (leaving before m)))) ≡ Taken n r → BringsNone r
+purge_brings m n before true r e x = cc
+purge_brings m n before false r e x = ap (λ (q : Reply). brings q x) (sym (taken_same (without_jobs (leaving before m) m) n _ r e).1)
+
 -- nor a request for work
 given_brings : (s : Settings) (m n : Queue) (t : ℕ) (modem : List ℕ) (r : Reply) → GivenTo s m t modem n r → BringsNone r
 given_brings s m n t modem r (None_to none same told) x = ap (λ (q : Reply). brings q x) (sym told)
@@ -88,6 +94,7 @@ act_brings s m n t (Mark modem down) r h e x = mark_brings m n modem down (has_m
 act_brings s m n t (Next modem) r h e x = given_brings s m n t modem r (given_is s m t modem n r h e) x
 act_brings s m n t (OnGrant a report) r h e x = report_brings s m n t report (grant_numbered a m) r e x
 act_brings s m n t (GiveUp upto) r h e x = ap (λ (q : Reply). brings q x) (sym (taken_same m n _ r e).1)
+act_brings s m n t (Purge before) r h e x = purge_brings m n before (nat_lt t before) r e x
 
 -- the same of a step, which ages the jobs first
 pub step_brings : (s : Settings) (m n : Queue) (t : ℕ) (ask : Ask) (r : Reply) → Sound m → step s m t ask ≡ Taken n r → (x : ℕ) → brings r x ≡ (is_import ask && eqb m.next_job x)

@@ -7,7 +7,7 @@ use Rattle.fax_job.specs.declared.refusal.Refusal.TheVariants.{BadBody, BadClien
 use Rattle.fax_value.specs.Name.{is_name}
 use Rattle.fax_value.specs.Number.{request_number_of}
 use Rattle.fax_ask.specs.declared.request.Request.{Request}
-use Rattle.fax_ask.specs.declared.request.Request.TheVariants.{Show, Submit, Import, OnJob, Mark, Next, OnGrant, Floor}
+use Rattle.fax_ask.specs.declared.request.Request.TheVariants.{Show, Submit, Import, OnJob, Mark, Next, OnGrant, Floor, Purge}
 use Rattle.fax_ask.specs.declared.view.View.{View}
 use Rattle.fax_ask.specs.declared.view.View.TheVariants as sight
 use Rattle.fax_ask.specs.Ask.{Asks}
@@ -55,6 +55,7 @@ step_of (Mark modem down) body asked is h = (machine.Mark modem down, h)
 step_of (Next modem) body asked is h = (machine.Next modem, h)
 step_of (OnGrant grant kind) body asked is h = (machine.OnGrant grant h.0, h.2)
 step_of Floor body asked is h = (machine.GiveUp h.0, h.2)
+step_of Purge body asked is h = (machine.Purge h.0, h.2)
 
 module _ (a : Arrival) (each : AsksOrHasFault a.body.now) where
   -- a body under a number is read as something, where no view is asked for

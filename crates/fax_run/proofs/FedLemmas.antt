@@ -6,7 +6,7 @@ use Rattle.fax_job.specs.declared.refusal.Refusal.TheVariants.{Unavailable}
 use Rattle.fax_ask.specs.Ask.{Asks}
 use Rattle.fax_ask.specs.declared.ask.Ask.TheVariants.{Step}
 use Rattle.fax_ask.specs.declared.request.Request.{Request as Route}
-use Rattle.fax_ask.specs.declared.request.Request.TheVariants.{Show, Submit, Import, OnJob, Mark, Next, OnGrant, Floor}
+use Rattle.fax_ask.specs.declared.request.Request.TheVariants.{Show, Submit, Import, OnJob, Mark, Next, OnGrant, Floor, Purge}
 use Rattle.fax_ask.specs.Response.{Response, refused_response}
 use Rattle.fax_ask.proofs.LimitLemmas.{order_limits}
 use Rattle.fax_core.specs.Ask.{IsLawfulAsk}
@@ -39,6 +39,7 @@ lawful_ask (Mark modem down) body ask h = subst IsLawfulAsk (sym (same_ask h)) t
 lawful_ask (Next modem) body ask h = subst IsLawfulAsk (sym (same_ask h)) tt
 lawful_ask (OnGrant grant kind) body ask h = subst IsLawfulAsk (sym (same_ask h.2)) tt
 lawful_ask Floor body ask h = subst IsLawfulAsk (sym (same_ask h.2)) tt
+lawful_ask Purge body ask h = subst IsLawfulAsk (sym (same_ask h.2)) tt
 
 -- what it asks for is
 abbrev pub IsLawful : Reading → Type 0

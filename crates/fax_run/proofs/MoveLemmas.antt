@@ -1,5 +1,5 @@
 -- What a step makes of the counters of the jobs, and which grants it leaves.
-use Rattle.std.proofs.Common.{◌≡◌, ◌≢◌, ◌⊎◌, inl, inr, ℕ, ◌<◌, ◌≤◌, eqb, Bool, true, false, cond, ◌&&◌, ◌||◌, List, [], ◌∷◌, ◌++◌, Option, Some, None, Ok, Err, refl, sym, ap, subst, ◌∙◌, arith}
+use Rattle.std.proofs.Common.{◌≡◌, ◌≢◌, ◌⊎◌, inl, inr, ℕ, ◌<◌, ◌≤◌, eqb, Bool, true, false, cond, ◌&&◌, ◌||◌, List, [], ◌∷◌, ◌++◌, length, Option, Some, None, Ok, Err, refl, sym, ap, subst, ◌∙◌, arith}
 use Rattle.std.specs.Prelude.{Result, find, nat_lt}
 use Rattle.std.specs.Option.{option_map, option_or}
 use Rattle.std.proofs.lemmas.Bool.{and_parts, cases_Bool, eqb-true, eq-eqb, ltb-false, ltb-true}
@@ -13,21 +13,25 @@ use Rattle.fax_core.specs.declared.report.Report.{Report}
 use Rattle.fax_core.specs.declared.report.Report.TheVariants as report
 use Rattle.fax_core.specs.Ageing.{aged, aged_job}
 use Rattle.fax_core.specs.declared.ask.Ask.{Ask}
-use Rattle.fax_core.specs.declared.ask.Ask.TheVariants.{Submission, Bring, OnJob, Mark, Next, OnGrant, GiveUp}
+use Rattle.fax_core.specs.declared.ask.Ask.TheVariants.{Submission, Bring, OnJob, Mark, Next, OnGrant, GiveUp, Purge}
 use Rattle.fax_core.specs.declared.ask.JobAsk.{JobAsk}
 use Rattle.fax_core.specs.Decisions.{JobAndGrant, grant_reported, granted, job_asked, submit}
 use Rattle.fax_core.specs.Import.{bring}
 use Rattle.fax_core.specs.Job.{Job}
 use Rattle.fax_core.specs.Machine as machine
 use Rattle.fax_core.specs.Machine.{act, brought_in, changed, handed, on_job, report_reply, step, submitted, with_both, with_job, with_mark, with_new_grant, with_new_job}
+use Rattle.fax_core.specs.Laws.{IsThere}
+use Rattle.fax_core.specs.Purge.{is_none_of, leaving, without_jobs}
 use Rattle.fax_core.specs.Queue.{Queue, grant_numbered, job_numbered}
-use Rattle.fax_core.specs.Reply.{Brought, Given, Marked, NoKeys, NoneToSend, Refused, Reply, Submitted, Taken}
+use Rattle.fax_core.specs.Reply.{Brought, Given, Marked, NoKeys, NoneToSend, Purged, Refused, Reply, Submitted, Taken}
 use Rattle.fax_core.specs.Settings.{Rule, Settings, has_modem}
 use Rattle.fax_core.specs.Sound.{IsJob, Sound}
 use Rattle.fax_core.specs.State.{state}
 use Rattle.fax_core.proofs.DecisionLemmas.{aged_number, asked_in}
 use Rattle.fax_core.proofs.KeepLemmas.{looked_up, numbered_grant, numbered_job, same_job}
+use Rattle.fax_core.proofs.LeaveLemmas.{found_after, found_before, job_before, left_nothing}
 use Rattle.fax_core.proofs.PageLemmas.{on_grant_is}
+use Rattle.fax_core.proofs.PurgeLemmas.{leaver_gone}
 use Rattle.fax_core.proofs.PlaceLemmas.{absent, comes, either, find_placed, in_place, mapped, placed, stays}
 use Rattle.fax_core.proofs.StepLemmas.{Best_to, GivenTo, None_to, aged_sound, given_is, taken_same}
 use Rattle.fax_run.proofs.CountLemmas.{Same, aged_same, asked_same, brought_counters, counted_all, report_counted, submitted_none}
@@ -49,11 +53,15 @@ pub data Became (m : Queue) (ask : Ask) (x : ℕ) (j : Job) : Type 0 where
   Was : (i : Job) → IsJob m x i → counters_of j ≡ counted_all (fresh m ask x) (counters_of i) → Became m ask x j
   Is_new : x ≡ m.next_job → counters_of j ≡ came_in ask → Became m ask x j
 
+-- the job of a number is there, or yet to come
+abbrev pub Lives : Queue → ℕ → Type 0
+Lives m x = IsThere m x ⊎ (m.next_job ≤ x)
+
 -- what a step that is taken makes of a queue
 pub record Moved (m n : Queue) (ask : Ask) (r : Reply) : Type 0 where
   pub jobs : (x : ℕ) (j : Job) → IsJob n x j → Became m ask x j
   pub numbers : m.next_job ≤ n.next_job
-  pub grants : (a x : ℕ) → has_job x (grant_numbered a n) ≡ (hands r a x || has_job x (grant_numbered a m))
+  pub grants : (a x : ℕ) → Lives n x → has_job x (grant_numbered a n) ≡ (hands r a x || has_job x (grant_numbered a m))
   pub given : (a x : ℕ) → hands r a x ≡ true → x < m.next_job
 
 -- ---- places
@@ -107,7 +115,7 @@ new_moves m ask k r none gives_none number came = record {
     | inr (here, same) ↦ Is_new (sym (eqb-true k.number x here) ∙ number) (ap counters_of (sym same) ∙ came)
   ];
   numbers = omega arith;
-  grants = λ a x. rw (gives_none a x) refl;
+  grants = λ a x lives. rw (gives_none a x) refl;
   given = λ a x on. absurd (let no = sym (gives_none a x) ∙ on in cc);
 }
 
@@ -122,7 +130,7 @@ changed_moves s m n t ask b j (Ok k) r is none keeps e =
     moved_as m (with_job k m) n ask _ r e (record {
       jobs = jobs_placed m ask b j k is (f.1 ∙ numbered_job m b j is) at (λ x q. none x);
       numbers = omega arith;
-      grants = λ a x. refl;
+      grants = λ a x lives. refl;
       given = λ a x no. absurd cc;
     })
 changed_moves s m n t ask b j (Err x) r is none keeps e = cc
@@ -161,7 +169,7 @@ mark_moves m n ask modem down true r none e =
     moved_as m (with_mark modem down m) n ask _ r e (record {
       jobs = jobs_same m (with_mark modem down m) ask same.0 none;
       numbers = omega (arith, same.2);
-      grants = λ a x. ap (λ (gs : List Grant). has_job x (find (λ (g : Grant). eqb g.number a) gs)) same.1;
+      grants = λ a x lives. ap (λ (gs : List Grant). has_job x (find (λ (g : Grant). eqb g.number a) gs)) same.1;
       given = λ a x no. absurd cc;
     })
 mark_moves m n ask modem down false r none e = cc
@@ -207,7 +215,7 @@ module _ (m : Queue) (b : ℕ) (x : Report) (g : Grant) (j : Job) (both : JobAnd
   report_moved r none = record {
     jobs = jobs_placed m ask g.job j both.job of (made.number ∙ numbered_job m g.job j of) at_its off_its;
     numbers = omega arith;
-    grants = λ a x.
+    grants = λ a x lives.
         ap (has_job x) (find_placed (λ (z : Grant). z.number) a both.grant m.grants) ∙ same_job_of a x (grant_numbered a m) refl ∙ ap (λ (q : Bool). q || has_job x (grant_numbered a m)) (sym (none a x));
     given = λ a x on. absurd (let no = sym (none a x) ∙ on in cc);
   }
@@ -274,7 +282,7 @@ given_moves s m n t modem r h (None_to none same told) =
     subst (λ (q : Reply). Moved m n (Next modem) q) told (subst (λ (q : Queue). Moved m q (Next modem) NoneToSend) same (record {
       jobs = λ x y found. Was y found refl;
       numbers = omega arith;
-      grants = λ a x. refl;
+      grants = λ a x lives. refl;
       given = λ a x no. absurd cc;
     }))
 given_moves s m n t modem r h (Best_to j best none same told) =
@@ -282,9 +290,53 @@ given_moves s m n t modem r h (Best_to j best none same told) =
     subst (λ (q : Reply). Moved m n (Next modem) q) told (subst (λ (q : Queue). Moved m q (Next modem) (Given (handed both.grant (with_new_grant both m)))) same (record {
       jobs = jobs_placed m (Next modem) j.number j both.job best.goes.there refl (λ x q. refl) (λ x q. refl);
       numbers = omega arith;
-      grants = λ a x. grants_more m h both.grant refl a x (grant_numbered a m) (eqb m.next_grant a) refl refl;
+      grants = λ a x lives. grants_more m h both.grant refl a x (grant_numbered a m) (eqb m.next_grant a) refl refl;
       given = λ a x on. subst (λ (i : ℕ). i < m.next_job) (eqb-true j.number x (and_parts (eqb m.next_grant a) (eqb j.number x) on).1) (below m j.number j h best.goes.there);
     }))
+
+-- ---- a purge
+
+-- the number of a job that stays, or of one yet to come, isn't among those that leave
+stays_of : (m : Queue) (before x : ℕ) → Sound m → Lives (without_jobs (leaving before m) m) x → is_none_of (leaving before m) x ≡ true
+stays_of m before x h lives = elim (cases_Bool (is_none_of (leaving before m) x)) [
+  | inl stays ↦ stays
+  | inr leaves ↦
+      let gone = leaver_gone m before x h leaves in
+      elim lives [
+        | inl there ↦ absurd (let none = gone.absent in let some = there.1 in cc (none, some))
+        | inr high ↦ absurd (let low = gone.given in omega (arith, low, high))
+      ]
+]
+
+-- of such a job each grant stays, and no other becomes its
+its_grants : (m : Queue) (before a x : ℕ) (o : Option Grant) → Sound m → is_none_of (leaving before m) x ≡ true → grant_numbered a m ≡ o
+    → has_job x (grant_numbered a (without_jobs (leaving before m) m)) ≡ has_job x o
+its_grants m before a x None h stays e = ap (has_job x) (left_nothing (λ (z : Grant). eqb z.number a) (λ (z : Grant). is_none_of (leaving before m) z.job) m.grants e)
+its_grants m before a x (Some g) h stays e = elim (cases_Bool (eqb g.job x)) [
+  | inl its ↦
+      let there : is_none_of (leaving before m) g.job ≡ true = ap (is_none_of (leaving before m)) (eqb-true g.job x its) ∙ stays in
+      ap (has_job x) (found_after (λ (z : Grant). z.number) (λ (z : Grant). is_none_of (leaving before m) z.job) m.next_grant a m.grants g h.grants e there)
+  | inr other ↦ not_its other (grant_numbered a (without_jobs (leaving before m) m)) refl ∙ sym other
+]
+  where
+    not_its : eqb g.job x ≡ false → (p : Option Grant) → grant_numbered a (without_jobs (leaving before m) m) ≡ p → has_job x p ≡ false
+    not_its other None q = refl
+    not_its other (Some y) q =
+        let was = found_before (λ (z : Grant). z.number) (λ (z : Grant). is_none_of (leaving before m) z.job) m.next_grant a m.grants y h.grants q in
+        let same : ◌≡◌ {A = Option Grant} (Some g) (Some y) = sym e ∙ was.0 in
+        let it : g ≡ y = cc in
+        ap (λ (z : Grant). eqb z.job x) (sym it) ∙ other
+
+-- a purge moves no counter
+purge_moves : (m n : Queue) (before : ℕ) (b : Bool) (r : Reply) → Sound m → cond b (Refused refusal.PurgeHigh NoKeys) (Taken (without_jobs (leaving before m) m) (Purged (length (leaving before m)))) ≡ Taken n r → Moved m n (Purge before) r
+purge_moves m n before true r h e = cc
+purge_moves m n before false r h e =
+    moved_as m (without_jobs (leaving before m) m) n (Purge before) _ r e (record {
+      jobs = λ x y found. Was y (job_before m (leaving before m) h x y found).0 refl;
+      numbers = omega arith;
+      grants = λ a x lives. its_grants m before a x (grant_numbered a m) h (stays_of m before x h lives) refl;
+      given = λ a x no. absurd cc;
+    })
 
 -- ---- each request
 
@@ -297,7 +349,8 @@ act_moves s m n t (Mark modem down) r h e = mark_moves m n (Mark modem down) mod
 act_moves s m n t (Next modem) r h e = given_moves s m n t modem r h (given_is s m t modem n r h e)
 act_moves s m n t (OnGrant a report) r h e = on_grant_moves s m n t a report r e
 act_moves s m n t (GiveUp upto) r h e =
-    moved_as m m n (GiveUp upto) _ r e (record { jobs = λ x y found. Was y found refl; numbers = omega arith; grants = λ a x. refl; given = λ a x no. absurd cc })
+    moved_as m m n (GiveUp upto) _ r e (record { jobs = λ x y found. Was y found refl; numbers = omega arith; grants = λ a x lives. refl; given = λ a x no. absurd cc })
+act_moves s m n t (Purge before) r h e = purge_moves m n before (nat_lt t before) r h e
 
 -- ageing moves no counter
 pub step_moves : (s : Settings) (m n : Queue) (t : ℕ) (ask : Ask) (r : Reply) → Sound m → step s m t ask ≡ Taken n r → Moved m n ask r

@@ -1,14 +1,14 @@
 -- After requests that were taken no page is confirmed twice, none that was confirmed or came in as sent is granted again, and the clock is no earlier.
 use Rattle.std.proofs.Common.{◌≡◌, ℕ, zero, suc, ◌+◌, ◌-◌, ◌<◌, ◌≤◌, true, List, [], ◌∷◌, ◌++◌, length, Some, refl, sym, ap, subst, ◌∙◌, arith}
 use Rattle.std.specs.List.{range_with_len}
-use Rattle.std.proofs.lemmas.List.{append-nil, length-append}
+use Rattle.std.proofs.lemmas.List.{length-append}
 use Rattle.fax_core.specs.declared.grants.Grant.{Grant}
 use Rattle.fax_core.specs.Ageing.{aged}
 use Rattle.fax_core.specs.Clock.{decided_at}
 use Rattle.fax_core.specs.declared.ask.Ask.TheVariants.{Bring, Next, OnGrant}
 use Rattle.fax_core.specs.declared.report.Report.TheVariants.{Page}
 use Rattle.fax_core.specs.Job.{HasPages, Job, pages_to}
-use Rattle.fax_core.specs.Laws.{ConfirmsPage, HasSent}
+use Rattle.fax_core.specs.Laws.{ConfirmsPage}
 use Rattle.fax_core.specs.Machine.{step}
 use Rattle.fax_core.specs.Queue.{Queue, grant_numbered}
 use Rattle.fax_core.specs.Reply.{Brought, Given, Handed, Reply, Step, Taken, Refused}
@@ -17,7 +17,7 @@ use Rattle.fax_core.specs.Sound.{IsJob, Sound}
 use Rattle.fax_core.proofs.BroughtLemmas.{came}
 use Rattle.fax_core.proofs.ClockLemmas.{step_clock}
 use Rattle.fax_core.proofs.KeepLemmas.{same_job}
-use Rattle.fax_core.proofs.PageLemmas.{KeepsSent, aged_keeps, confirmed, one_each, step_gives, step_keeps, tail_is, through}
+use Rattle.fax_core.proofs.PageLemmas.{KeepsSent, aged_keeps, confirmed, one_each, same_keeps, sent_before, step_gives, step_keeps, tail_is, through}
 use Rattle.fax_core.proofs.StepLemmas.{aged_sound, decided_sound}
 use Rattle.fax_run.specs.Laws.{AreTaken, BringsIn, ClockRises, GoesBehind, IsConfirmed, RunsAreSound, RunsSendNoImportedPage, RunsSendOnce}
 use Rattle.fax_run.specs.Run.{Fed, queue_after, step_of, takes}
@@ -44,10 +44,6 @@ taken_step m (Refused e k) on = absurd cc
 
 -- ---- pages that were sent stay sent
 
--- they do where nothing is fed
-sent_still : (m : Queue) → KeepsSent m m
-sent_still m a j is = record { job = j; there = is; more = []; begins = sym (append-nil j.sent) }
-
 -- a step that was taken leaves them
 one_keeps : (m : Queue) (f : Fed) → Sound m → takes (step_of m f) ≡ true → KeepsSent m (left_by m (step_of m f))
 one_keeps m f h on =
@@ -56,7 +52,7 @@ one_keeps m f h on =
 
 -- and so do all behind an earlier part
 keeps_sent : (m : Queue) (newer older : List Fed) → Sound m → AreTaken m (newer ++ older) → KeepsSent (queue_after m older) (queue_after m (newer ++ older))
-keeps_sent m [] older h are = sent_still (queue_after m older)
+keeps_sent m [] older h are = same_keeps (queue_after m older)
 keeps_sent m (f ∷ newer) older h (lawful, on, are) =
     let here = queue_after m (newer ++ older) in
     through (queue_after m older) here (left_by here (step_of here f)) (keeps_sent m newer older h are)
@@ -77,14 +73,6 @@ first_left m n a p c h =
     let split : c.old.sent ++ p ∷ c.rest ≡ pages_to c.old.totpages = ap (λ (ps : List ℕ). c.old.sent ++ ps) (sym c.left) ∙ pages in
     let place = head_is p c.rest (1 + length c.old.sent) (c.old.totpages - length c.old.sent) (tail_is c.old.sent (p ∷ c.rest) 1 c.old.totpages split) in
     omega (arith, place)
-
--- no fewer pages are sent than were at first
-sent_before : (m : Queue) (a : ℕ) (pages : List ℕ) (j : Job) → HasSent m a pages → IsJob m a j → length pages ≤ length j.sent
-sent_before m a pages j x is =
-    let same : x.job.sent ≡ j.sent = ap (λ (k : Job). k.sent) (same_job m a x.job j x.there is) in
-    let long : length x.job.sent ≡ length pages + length x.more = ap length x.begins ∙ length-append pages x.more in
-    let all : length x.job.sent ≡ length j.sent = ap length same in
-    omega (arith, long, all)
 
 -- ---- past the pages that were sent
 
@@ -147,7 +135,7 @@ module _ (m : Queue) (between earlier : List Fed) (e : Fed) (h : Sound m) (are :
   sent_now : (job : ℕ) (j k : Job) (u : ℕ) → IsJob then' job j → IsJob (aged u now) job k → length j.sent ≤ length k.sent
   sent_now job j k u there here =
       let kept : KeepsSent then' (aged u now) = through then' now (aged u now) (keeps_sent m between (e ∷ earlier) h are) (aged_keeps u now) in
-      sent_before (aged u now) job j.sent k (kept job j there) here
+      sent_before (aged u now) job j.sent k (kept.sent job j there) here
 
   -- after a page that it confirmed as many pages are sent
   sent_since : (grant page : ℕ) (g : Grant) → IsConfirmed was e grant page g → (u : ℕ) (j : Job) → IsJob (aged u now) g.job j → page ≤ length j.sent

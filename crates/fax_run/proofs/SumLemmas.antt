@@ -1,6 +1,6 @@
 -- Over a run from the empty queue the counters of a job are what it came in with and the counts of its reports.
 use Rattle.std.proofs.Common.{◌≡◌, ◌⊎◌, inl, inr, ℕ, ◌<◌, ◌≤◌, ◌==◌, Bool, true, false, ◌&&◌, ◌||◌, List, [], ◌∷◌, ◌++◌, refl, sym, ap, ap₂, ◌∙◌, arith, if◌then◌else◌}
-use Rattle.std.proofs.lemmas.Bool.{cases_Bool, eq-eqb, ne_eqb, or_cases}
+use Rattle.std.proofs.lemmas.Bool.{cases_Bool, cases_lt, eq-eqb, ne_eqb, or_cases}
 use Rattle.fax_core.specs.Ask.{IsLawfulAsk}
 use Rattle.fax_core.specs.Clock.{decided_at}
 use Rattle.fax_core.specs.declared.ask.Ask.{Ask}
@@ -14,7 +14,7 @@ use Rattle.fax_core.specs.Sound.{IsJob, Sound}
 use Rattle.fax_core.proofs.StepLemmas.{empty_sound, step_sound}
 use Rattle.fax_run.proofs.BroughtLemmas.{is_import, none_came, step_brings, step_numbers}
 use Rattle.fax_run.proofs.CountLemmas.{counted_all, counts_all, counts_none}
-use Rattle.fax_run.proofs.MoveLemmas.{Became, Is_new, Moved, Was, below, fresh, has_job, step_moves}
+use Rattle.fax_run.proofs.MoveLemmas.{Became, Is_new, Lives, Moved, Was, below, fresh, has_job, step_moves}
 use Rattle.fax_run.specs.Counts.{Counters, brought_with, came_in, counters_of, counts, gives, hands, no_counters, reported, reports_of, takes_in, was_given}
 use Rattle.fax_run.specs.Laws.{AreTaken, CountersAreCounts}
 use Rattle.fax_run.specs.Run.{Fed, queue_after, step_of, takes}
@@ -35,7 +35,7 @@ reported_none other = refl
 
 record Sums (fed : List Fed) (m : Queue) : Type 0 where
   sound : Sound m
-  grants : (a x : ℕ) → has_job x (grant_numbered a m) ≡ was_given empty_queue fed a x
+  grants : (a x : ℕ) → Lives m x → has_job x (grant_numbered a m) ≡ was_given empty_queue fed a x
   jobs : (x : ℕ) (j : Job) → IsJob m x j → counters_of j ≡ counts (brought_with empty_queue x fed) (reports_of empty_queue x fed)
   known : (a x : ℕ) → has_job x (grant_numbered a m) ≡ true → x < m.next_job
   none : (x : ℕ) → m.next_job ≤ x → reports_of empty_queue x fed ≡ []
@@ -45,7 +45,7 @@ record Sums (fed : List Fed) (m : Queue) : Type 0 where
 no_sums : Sums [] empty_queue
 no_sums = record {
   sound = empty_sound;
-  grants = λ a x. refl;
+  grants = λ a x lives. refl;
   jobs = λ x j is. absurd cc;
   known = λ a x on. absurd cc;
   none = λ x high. refl;
@@ -79,12 +79,12 @@ module _ (f : Fed) (earlier : List Fed) (lawful : IsLawfulAsk f.post.request.ask
     moved = step_moves f.settings m n moment ask r sums.sound is
 
     -- what it reports of a job is on the grants that were given with it
-    its : (x : ℕ) → reported (λ grant. was_given empty_queue earlier grant x) ask ≡ fresh m ask x
-    its x = reported_same (λ grant. was_given empty_queue earlier grant x) (λ a. has_job x (grant_numbered a m)) (λ a. sym (sums.grants a x)) ask
+    its : (x : ℕ) → Lives m x → reported (λ grant. was_given empty_queue earlier grant x) ask ≡ fresh m ask x
+    its x lives = reported_same (λ grant. was_given empty_queue earlier grant x) (λ a. has_job x (grant_numbered a m)) (λ a. sym (sums.grants a x lives)) ask
 
     -- a job whose number isn't given yet has no reports
     unknown : (x : ℕ) → m.next_job ≤ x → reports_of empty_queue x (f ∷ earlier) ≡ []
-    unknown x high = ap₂ (λ (front rest : List Report). front ++ rest) (its x ∙ none_fresh) (sums.none x high)
+    unknown x high = ap₂ (λ (front rest : List Report). front ++ rest) (its x (inr high) ∙ none_fresh) (sums.none x high)
       where
         not_its : (a : ℕ) → has_job x (grant_numbered a m) ≡ false
         not_its a = elim (cases_Bool (has_job x (grant_numbered a m))) [
@@ -120,7 +120,7 @@ module _ (f : Fed) (earlier : List Fed) (lawful : IsLawfulAsk f.post.request.ask
         let low = below m x i sums.sound there in
         counted ∙ ap (counted_all (fresh m ask x)) (sums.jobs x i there)
         ∙ sym (counts_all (brought_with empty_queue x earlier) (fresh m ask x) (reports_of empty_queue x earlier))
-        ∙ ap (λ (front : List Report). counts (brought_with empty_queue x earlier) (front ++ reports_of empty_queue x earlier)) (sym (its x))
+        ∙ ap (λ (front : List Report). counts (brought_with empty_queue x earlier) (front ++ reports_of empty_queue x earlier)) (sym (its x (inl (i, there))))
         ∙ ap (λ (b : Counters). counts b (reports_of empty_queue x (f ∷ earlier))) (sym (brought_before x (ne_eqb m.next_job x (λ q. omega (arith, low, q)))))
     became x j (Is_new new none) =
         let high : m.next_job ≤ x = omega (arith, new) in
@@ -144,15 +144,31 @@ module _ (f : Fed) (earlier : List Fed) (lawful : IsLawfulAsk f.post.request.ask
           ∙ sums.none_in x (omega (arith, more, high))
     ]
 
+    -- a job that lives afterwards lived, or is the next one
+    lived : (x : ℕ) → Lives n x → Lives m x
+    lived x (inl (j, found)) = by (moved.jobs x j found)
+      where
+        by : Became m ask x j → Lives m x
+        by (Was i there counted) = inl (i, there)
+        by (Is_new new none) = inr (omega (arith, new))
+    lived x (inr high) = let more = moved.numbers in inr (omega (arith, more, high))
+
+    -- the job of a grant that is known has its number given out
+    known_now : (a x : ℕ) → has_job x (grant_numbered a n) ≡ true → x < n.next_job
+    known_now a x on = elim (cases_lt x n.next_job) [
+      | inl low ↦ low
+      | inr high ↦ known_by a x (or_cases (hands r a x) (has_job x (grant_numbered a m)) (sym (moved.grants a x (inr high)) ∙ on))
+    ]
+
     -- so the sums hold with this request
     sums_more : Sums (f ∷ earlier) n
     sums_more = record {
       sound = step_sound f.settings m n moment ask r sums.sound lawful is;
-      grants = λ a x.
-          moved.grants a x ∙ ap (λ (b : Bool). hands r a x || b) (sums.grants a x)
+      grants = λ a x lives.
+          moved.grants a x lives ∙ ap (λ (b : Bool). hands r a x || b) (sums.grants a x (lived x lives))
           ∙ ap (λ (y : Step). gives y a x || was_given empty_queue earlier a x) (sym is);
       jobs = λ x j found. became x j (moved.jobs x j found);
-      known = λ a x on. known_by a x (or_cases (hands r a x) (has_job x (grant_numbered a m)) (sym (moved.grants a x) ∙ on));
+      known = known_now;
       none = λ x high. unknown x (let more = moved.numbers in omega (arith, more, high));
       none_in = λ x high. none_now x high;
     }

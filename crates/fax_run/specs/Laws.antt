@@ -1,11 +1,11 @@
 -- What is proved of the definitions.
-use Rattle.std.specs.Prelude.{true, false, ⊤, ◌≡◌, ◌≢◌, ◌≤◌, ◌<◌, ℕ, List, [], ◌∷◌, All, ◌++◌, None, Some, Ok}
+use Rattle.std.specs.Prelude.{true, false, ⊤, ◌⊎◌, ◌≡◌, ◌≢◌, ◌≤◌, ◌<◌, ℕ, List, [], ◌∷◌, All, ◌++◌, None, Some, Ok}
 use Rattle.fax_job.specs.declared.import.Import.{Import}
 use Rattle.fax_job.specs.declared.refusal.Refusal.TheVariants.{Unavailable}
 use Rattle.fax_ask.specs.Response.{Response, refused_response}
 use Rattle.fax_core.specs.Ask.{IsLawfulAsk}
 use Rattle.fax_core.specs.Job.{Job}
-use Rattle.fax_core.specs.Laws.{HoldsOnce}
+use Rattle.fax_core.specs.Laws.{HoldsOnce, IsGone}
 use Rattle.fax_core.specs.Ledger.{Ledger, with_reply, kept_for, entry, IsKeptStatus, IsLawfulEntry}
 use Rattle.fax_core.specs.Queue.{Queue, empty_queue, grant_numbered}
 use Rattle.fax_core.specs.Reply.{Brought, Given, Handed, NoKeys, Reply, Taken}
@@ -166,11 +166,11 @@ pub record IsSameGrant (g h : Grant) : Type 0 where
   pub confirmed : g.confirmed ≤ h.confirmed
   pub closed : g.is_open ≡ false → h ≡ g
 
--- each grant of the one queue is in the other
+-- each grant of the one queue is in the other, unless its job has left
 abbrev pub KeepsGrants : Queue → Queue → Type 0
-KeepsGrants m n = (number : ℕ) (g : Grant) → grant_numbered number m ≡ Some g → (h : Grant) × (grant_numbered number n ≡ Some h) × IsSameGrant g h
+KeepsGrants m n = (number : ℕ) (g : Grant) → grant_numbered number m ≡ Some g → ((h : Grant) × (grant_numbered number n ≡ Some h) × IsSameGrant g h) ⊎ IsGone n g.job
 
--- what is given in a run stays there, as it was given
+-- what is given in a run stays there with its job, as it was given
 abbrev pub RunsKeepGrants : Type 0
 RunsKeepGrants = (m : Queue) (later earlier : List Fed) → Sound m → AreTaken m (later ++ earlier)
     → KeepsGrants (queue_after m earlier) (queue_after m (later ++ earlier))

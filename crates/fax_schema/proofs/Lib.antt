@@ -3,6 +3,7 @@ pub mod SelectLemmas
 pub mod WriteLemmas
 pub mod EditLemmas
 pub mod TimesTexts
+pub mod PurgeTexts
 pub mod UpdateLemmas
 pub mod AppendLemmas
 pub mod ColumnLemmas

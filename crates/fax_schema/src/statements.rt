@@ -105,6 +105,17 @@ pub const INSERT_TIMES: &str = "INSERT INTO times (job, submitted, ended) VALUES
 
 pub const END_TIMES: &str = "UPDATE times SET ended = ?2 WHERE job = ?1";
 
+// ---- purging
+
+pub const SELECT_LEAVING: &str = "SELECT times.job FROM times JOIN jobs ON jobs.job = times.job \
+    WHERE times.ended < ?1 AND jobs.phase > 2 ORDER BY times.job LIMIT 1000";
+
+pub const DELETE_JOB: &str = "DELETE FROM jobs WHERE job = ?1";
+
+pub const DELETE_TIMES: &str = "DELETE FROM times WHERE job = ?1";
+
+pub const DELETE_GRANTS: &str = "DELETE FROM grants WHERE job = ?1";
+
 // ---- the jobs that wait, a page at a time
 
 pub const SELECT_FIRST: &str = "SELECT job, dial, modem, priority, tts FROM jobs \

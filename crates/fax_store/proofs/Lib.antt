@@ -13,6 +13,9 @@ pub mod KeptLemmas
 pub mod NumberedLemmas
 pub mod TimesLemmas
 pub mod EndLemmas
+pub mod PurgeLemmas
+pub mod LeaveLemmas
+pub mod LeavingLemmas
 pub mod JobLemmas
 pub mod ModemLemmas
 pub mod GrantLemmas

@@ -2,6 +2,7 @@ pub mod Store
 pub mod Work
 pub mod Calls
 pub mod Times
+pub mod Purge
 pub mod Job
 pub mod Candidates
 pub mod Grant

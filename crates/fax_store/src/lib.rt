@@ -12,6 +12,7 @@ mod jobs;
 pub mod laws;
 mod meta;
 mod modems;
+mod purge;
 mod replies;
 mod shut;
 mod store;

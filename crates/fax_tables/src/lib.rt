@@ -25,4 +25,4 @@ pub use meta::{Meta, PAST_GRANTS, PAST_JOBS, is_version};
 pub use prospect::{Prospect, prospect_in};
 pub use replies::{Kept, is_kept_status, number_value};
 pub use schema::{create_tables, renew_tables};
-pub use times::times_in;
+pub use times::{numbers_in, times_in};

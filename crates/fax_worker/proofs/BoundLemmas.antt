@@ -3,20 +3,20 @@ use Rattle.std.proofs.Common.{◌≡◌, ◌⊎◌, inl, inr, ℕ, ◌+◌, ◌�
 use Rattle.std.specs.Str.{bytes_eq}
 use Rattle.std.specs.Cmp.Lexicographic.{bytes_decides}
 use Rattle.std.proofs.lemmas.Bool.{and_from, and_parts, cases_Bool, eq-eqb, eqb-true, true≢false}
-use Rattle.std.proofs.lemmas.List.{append-nil}
 use Rattle.fax_core.specs.declared.ask.Ask.{Ask}
 use Rattle.fax_core.specs.declared.ask.Ask.TheVariants.{OnGrant}
 use Rattle.fax_core.specs.declared.grants.Grant.{Grant}
 use Rattle.fax_core.specs.declared.report.Report.TheVariants.{Page}
 use Rattle.fax_core.specs.Clock.{decided_at}
 use Rattle.fax_core.specs.Job.{Job}
+use Rattle.fax_core.specs.Laws.{IsGone}
 use Rattle.fax_core.specs.Queue.{Queue, grant_numbered}
 use Rattle.fax_core.specs.Reply.{Taken}
 use Rattle.fax_core.specs.Run.{Answer, left_by}
 use Rattle.fax_core.specs.Settings.{Settings}
 use Rattle.fax_core.specs.Sound.{IsJob, Sound}
 use Rattle.fax_core.proofs.KeepLemmas.{same_job}
-use Rattle.fax_core.proofs.PageLemmas.{KeepsSent, sent_before, step_keeps}
+use Rattle.fax_core.proofs.PageLemmas.{KeepsSent, same_keeps, sent_before, step_keeps}
 use Rattle.fax_run.specs.Reading.{Post}
 use Rattle.fax_run.specs.Run.{is_taken, queue_after, step_of, under}
 use Rattle.fax_worker.proofs.StandLemmas.{Arrived, ReportWaits, Stands, name, taken_parts}
@@ -56,13 +56,14 @@ handles_keep first s p earlier good =
     (λ on.
     let it = taken_parts first.start fs f on in
     step_keeps s m (left_by m (step_of m f)) (decided_at m.clock p.request.moment) p.request.ask it.reply good (it.taken ∙ ap (λ (q : Queue). Taken q it.reply) (sym (ap (left_by m) it.taken))))
-    (λ off a j is. record { job = j; there = is; more = []; begins = sym (append-nil j.sent) })
+    (λ off. same_keeps m)
 
 -- ---- a page that may not be transmitted any more
 
--- the page is confirmed, transmitted with its report to be begun, or its report is begun
+-- the page is confirmed, or its job has left, or it is transmitted with its report to be begun, or its report is begun
 pub data Passed (first : World) (trace : List Event) (job page : ℕ) : Type 0 where
   Confirmed : (j : Job) → IsJob (queue_at first trace) job j → page ≤ length j.sent → Passed first trace job page
+  Left : IsGone (queue_at first trace) job → Passed first trace job page
   Sent : (modem : List ℕ) → first.has modem ≡ true → window trace modem ≡ Some (record { job = job; page = page }) → Passed first trace job page
   Reporting : (modem : List ℕ) → first.has modem ≡ true → (n grant : ℕ) (h : Held) → (worker_at first trace modem).unanswered ≡ Some (record { number = n; ask = OnGrant grant (Page page) })
       → (worker_at first trace modem).held ≡ Some h → h.job ≡ job → Passed first trace job page
@@ -104,6 +105,7 @@ module _ (first : World) (earlier : List Event) (at : IsFirst first) (is : IsTra
     where
       by : Agrees m modem may.held → (j : Job) → IsJob m job j → page ≡ length j.sent + 1 → Passed first earlier job page → ⊥
       by a j there next (Confirmed k also sent) = let same = same_pages m job j k there also in omega (arith, next, sent, same)
+      by a j there next (Left gone) = let none = gone.absent in cc (none, there)
       by a j there next (Sent other works win) =
           let it = (stands first other works earlier at is).in_window _ win in
           let b = agrees_of other it.held works it.answered it.holds in
@@ -129,15 +131,20 @@ module _ (first : World) (earlier : List Event) (at : IsFirst first) (is : IsTra
 
   passed_handles : (s : Settings) (p : Post) (job page : ℕ) → Passed first earlier job page → Passed first (Handles s p ∷ earlier) job page
   passed_handles s p job page (Confirmed j there sent) =
-      let more = handles_keep first s p earlier good job j there in
-      let long = sent_before (queue_at first (Handles s p ∷ earlier)) job j.sent more.job more more.there in
-      Confirmed more.job more.there (omega (arith, sent, long))
+      elim ((handles_keep first s p earlier good).sent job j there) [
+        | inl more ↦
+            let long = sent_before (queue_at first (Handles s p ∷ earlier)) job j.sent more.job (inl more) more.there in
+            Confirmed more.job more.there (omega (arith, sent, long))
+        | inr gone ↦ Left gone
+      ]
+  passed_handles s p job page (Left gone) = Left ((handles_keep first s p earlier good).gone job gone)
   passed_handles s p job page (Sent modem works win) = Sent modem works win
   passed_handles s p job page (Reporting modem works n grant h waits holds of_job) = Reporting modem works n grant h waits holds of_job
 
   -- a worker that begins a report of its page
   passed_begins : (modem : List ℕ) (n : ℕ) (ask : Ask) (job page : ℕ) → MayBegin first earlier modem n ask → Passed first earlier job page → Passed first (Begins modem n ask ∷ earlier) job page
   passed_begins modem n ask job page may (Confirmed j there sent) = Confirmed j there sent
+  passed_begins modem n ask job page may (Left gone) = Left gone
   passed_begins modem n ask job page may (Sent other works win) = elim (cases_Bool (bytes_eq modem other)) [
     | inl on ↦
         let same = (bytes_decides modem other).0 on in
@@ -165,6 +172,7 @@ module _ (first : World) (earlier : List Event) (at : IsFirst first) (is : IsTra
   passed_answered : (modem : List ℕ) (n : ℕ) (ask : Ask) (answer : Answer) (look : Look) (job page : ℕ) → MayAnswer first earlier modem n ask answer look → Passed first earlier job page
       → Passed first (Answered modem n ask answer look ∷ earlier) job page
   passed_answered modem n ask answer look job page may (Confirmed j there sent) = Confirmed j there sent
+  passed_answered modem n ask answer look job page may (Left gone) = Left gone
   passed_answered modem n ask answer look job page may (Sent other works win) = elim (cases_Bool (bytes_eq modem other)) [
     | inl on ↦
         let same = (bytes_decides modem other).0 on in
@@ -200,6 +208,7 @@ module _ (first : World) (earlier : List Event) (at : IsFirst first) (is : IsTra
   -- one that transmits
   passed_transmits : (modem : List ℕ) (j p job page : ℕ) → MayTransmit first earlier modem j p → Passed first earlier job page → Passed first (Transmits modem j p ∷ earlier) job page
   passed_transmits modem j p job page may (Confirmed k there sent) = Confirmed k there sent
+  passed_transmits modem j p job page may (Left gone) = Left gone
   passed_transmits modem j p job page may (Sent other works win) = elim (cases_Bool (bytes_eq modem other)) [
     | inl on ↦
         let same = (bytes_decides modem other).0 on in
@@ -212,6 +221,7 @@ module _ (first : World) (earlier : List Event) (at : IsFirst first) (is : IsTra
   -- a driver that dies elsewhere
   passed_dies : (modem : List ℕ) (job page : ℕ) → is_page job page (window earlier modem) ≡ false → Passed first earlier job page → Passed first (Dies modem ∷ earlier) job page
   passed_dies modem job page off (Confirmed k there sent) = Confirmed k there sent
+  passed_dies modem job page off (Left gone) = Left gone
   passed_dies modem job page off (Sent other works win) = elim (cases_Bool (bytes_eq modem other)) [
     | inl on ↦
         let same = (bytes_decides modem other).0 on in

@@ -1,6 +1,6 @@
 -- No step of the queue changes the number that a job dials.
-use Rattle.std.proofs.Common.{◌≡◌, inl, inr, ℕ, ◌+◌, Bool, true, false, cond, not, ◌&&◌, ◌||◌, eqb, leb, List, [], ◌∷◌, ◌++◌, Option, Some, None, refl, sym, ap, subst, ◌∙◌}
-use Rattle.std.specs.Prelude.{Result, Ok, Err, find, is_none, is_some}
+use Rattle.std.proofs.Common.{◌≡◌, ◌≢◌, inl, inr, ℕ, ◌+◌, Bool, true, false, cond, not, ◌&&◌, ◌||◌, eqb, leb, List, [], ◌∷◌, ◌++◌, length, Option, Some, None, refl, sym, ap, subst, ◌∙◌}
+use Rattle.std.specs.Prelude.{Result, Ok, Err, find, is_none, is_some, nat_lt}
 use Rattle.std.specs.Option.{option_map}
 use Rattle.std.proofs.lemmas.Bool.{cases_eq, cond_both}
 use Rattle.fax_job.specs.declared.alter.Alter.{Alter}
@@ -20,18 +20,21 @@ use Rattle.fax_core.specs.declared.report.Report.{Report}
 use Rattle.fax_core.specs.declared.report.Report.TheVariants as report
 use Rattle.fax_core.specs.Ageing.{aged, aged_job, expires, is_past}
 use Rattle.fax_core.specs.declared.ask.Ask.{Ask}
-use Rattle.fax_core.specs.declared.ask.Ask.TheVariants.{Submission, Bring, OnJob, Mark, Next, OnGrant, GiveUp}
+use Rattle.fax_core.specs.declared.ask.Ask.TheVariants.{Submission, Bring, OnJob, Mark, Next, OnGrant, GiveUp, Purge}
 use Rattle.fax_core.specs.declared.ask.JobAsk.{JobAsk}
 use Rattle.fax_core.specs.declared.ask.JobAsk.TheVariants as ask
 use Rattle.fax_core.specs.Decisions.{JobAndGrant, after_call, alter_in, altered, ended, ended_by, grant_reported, granted, is_connected, is_done, is_empty, is_kill, job_asked, kill_in, page_of, resume_in, retried, submit, suspend_in}
 use Rattle.fax_core.specs.Import.{bring}
 use Rattle.fax_core.specs.Job.{Job}
 use Rattle.fax_core.specs.Machine.{act, brought_in, changed, on_job, step, submitted, with_job, with_mark, with_new_job}
+use Rattle.fax_core.specs.Purge.{is_none_of, leaving, without_jobs}
 use Rattle.fax_core.specs.Queue.{Queue, grant_numbered, job_numbered}
-use Rattle.fax_core.specs.Reply.{Marked, NoKeys, Reply, Taken, Refused}
+use Rattle.fax_core.specs.Reply.{Marked, NoKeys, Purged, Reply, Taken, Refused}
 use Rattle.fax_core.specs.Settings.{Rule, Settings, has_modem}
-use Rattle.fax_core.specs.Sound.{IsJob, Sound}
+use Rattle.fax_core.specs.Sound.{IsJob, IsOpen, Sound}
 use Rattle.fax_core.proofs.DecisionLemmas.{aged_number, asked_in, not_refused, ok_same, reported_in}
+use Rattle.fax_core.proofs.GrantLemmas.{open_stays}
+use Rattle.fax_core.proofs.LeaveLemmas.{job_after}
 use Rattle.fax_core.proofs.KeepLemmas.{looked_up, numbered_job, same_job}
 use Rattle.fax_core.proofs.PageLemmas.{Reported, on_grant_is}
 use Rattle.fax_core.proofs.PlaceLemmas.{mapped, placed_here, placed_other, stays}
@@ -141,14 +144,14 @@ report_dial (report.Outcome o) delay t j g b e =
 -- ---- a queue
 
 -- each job is there still, and dials the same number
-abbrev pub KeepsDials : Queue → Queue → Type 0
-KeepsDials m n = (x : ℕ) (j : Job) → IsJob m x j → (k : Job) × IsJob n x k × (k.dial ≡ j.dial)
+abbrev AllDials : Queue → Queue → Type 0
+AllDials m n = (x : ℕ) (j : Job) → IsJob m x j → (k : Job) × IsJob n x k × (k.dial ≡ j.dial)
 
-same_dials : (m n : Queue) → n.jobs ≡ m.jobs → KeepsDials m n
+same_dials : (m n : Queue) → n.jobs ≡ m.jobs → AllDials m n
 same_dials m n same x j is = (j, subst (λ (js : List Job). find (λ (z : Job). eqb z.number x) js ≡ Some j) (sym same) is, refl)
 
 -- a job in its place
-placed_dials : (m : Queue) (b : ℕ) (j k : Job) → IsJob m b j → k.number ≡ b → k.dial ≡ j.dial → KeepsDials m (with_job k m)
+placed_dials : (m : Queue) (b : ℕ) (j k : Job) → IsJob m b j → k.number ≡ b → k.dial ≡ j.dial → AllDials m (with_job k m)
 placed_dials m b j k is same dial x y there = elim (cases_eq k.number x) [
   | inl here ↦
       let at : b ≡ x = sym same ∙ here in
@@ -157,52 +160,78 @@ placed_dials m b j k is same dial x y there = elim (cases_eq k.number x) [
   | inr other ↦ (y, placed_other (λ (z : Job). z.number) x k y m.jobs there other, refl)
 ]
 
-changed_dials : (s : Settings) (m n : Queue) (t b : ℕ) (a : JobAsk) (j : Job) (d : Result Job Refusal) (r : Reply) → IsJob m b j → job_asked a t j ≡ d → changed s m t d ≡ Taken n r → KeepsDials m n
+changed_dials : (s : Settings) (m n : Queue) (t b : ℕ) (a : JobAsk) (j : Job) (d : Result Job Refusal) (r : Reply) → IsJob m b j → job_asked a t j ≡ d → changed s m t d ≡ Taken n r → AllDials m n
 changed_dials s m n t b a j (Ok k) r is e taken =
-    subst (KeepsDials m) (taken_same (with_job k m) n _ r taken).0 (placed_dials m b j k is ((asked_in a t j k e).number ∙ numbered_job m b j is) (asked_dial a t j k e))
+    subst (AllDials m) (taken_same (with_job k m) n _ r taken).0 (placed_dials m b j k is ((asked_in a t j k e).number ∙ numbered_job m b j is) (asked_dial a t j k e))
 changed_dials s m n t b a j (Err x) r is e taken = cc
 
-on_job_dials : (s : Settings) (m n : Queue) (t b : ℕ) (a : JobAsk) (o : Option Job) (r : Reply) → job_numbered b m ≡ o → on_job s m t a o ≡ Taken n r → KeepsDials m n
+on_job_dials : (s : Settings) (m n : Queue) (t b : ℕ) (a : JobAsk) (o : Option Job) (r : Reply) → job_numbered b m ≡ o → on_job s m t a o ≡ Taken n r → AllDials m n
 on_job_dials s m n t b a None r is taken = cc
 on_job_dials s m n t b a (Some j) r is taken = changed_dials s m n t b a j (job_asked a t j) r is refl taken
 
-new_dials : (m : Queue) (k : Job) → KeepsDials m (with_new_job k m)
+new_dials : (m : Queue) (k : Job) → AllDials m (with_new_job k m)
 new_dials m k x j is = (j, stays (λ (z : Job). eqb z.number x) m.jobs k j is, refl)
 
-submission_dials : (m n : Queue) (rule : Rule) (d : Result Job Refusal) (r : Reply) → submitted m rule d ≡ Taken n r → KeepsDials m n
-submission_dials m n rule (Ok k) r e = subst (KeepsDials m) (taken_same (with_new_job k m) n _ r e).0 (new_dials m k)
+submission_dials : (m n : Queue) (rule : Rule) (d : Result Job Refusal) (r : Reply) → submitted m rule d ≡ Taken n r → AllDials m n
+submission_dials m n rule (Ok k) r e = subst (AllDials m) (taken_same (with_new_job k m) n _ r e).0 (new_dials m k)
 submission_dials m n rule (Err x) r e = cc
 
-import_dials : (s : Settings) (m n : Queue) (t : ℕ) (rule : Rule) (d : Result Job Refusal) (r : Reply) → brought_in s m t rule d ≡ Taken n r → KeepsDials m n
-import_dials s m n t rule (Ok k) r e = subst (KeepsDials m) (taken_same (with_new_job k m) n _ r e).0 (new_dials m k)
+import_dials : (s : Settings) (m n : Queue) (t : ℕ) (rule : Rule) (d : Result Job Refusal) (r : Reply) → brought_in s m t rule d ≡ Taken n r → AllDials m n
+import_dials s m n t rule (Ok k) r e = subst (AllDials m) (taken_same (with_new_job k m) n _ r e).0 (new_dials m k)
 import_dials s m n t rule (Err x) r e = cc
 
 mark_jobs : (m : Queue) (modem : List ℕ) (down : Bool) → (with_mark modem down m).jobs ≡ m.jobs
 mark_jobs m modem true = refl
 mark_jobs m modem false = refl
 
-marked_dials : (m n : Queue) (modem : List ℕ) (down b : Bool) (r : Reply) → cond b (Taken (with_mark modem down m) (Marked down)) (Refused refusal.NoModem NoKeys) ≡ Taken n r → KeepsDials m n
+marked_dials : (m n : Queue) (modem : List ℕ) (down b : Bool) (r : Reply) → cond b (Taken (with_mark modem down m) (Marked down)) (Refused refusal.NoModem NoKeys) ≡ Taken n r → AllDials m n
 marked_dials m n modem down true r e = same_dials m n (ap (λ (q : Queue). q.jobs) (sym (taken_same (with_mark modem down m) n _ r e).0) ∙ mark_jobs m modem down)
 marked_dials m n modem down false r e = cc
 
-given_dials : (s : Settings) (m n : Queue) (t : ℕ) (modem : List ℕ) (r : Reply) → GivenTo s m t modem n r → KeepsDials m n
+given_dials : (s : Settings) (m n : Queue) (t : ℕ) (modem : List ℕ) (r : Reply) → GivenTo s m t modem n r → AllDials m n
 given_dials s m n t modem r (None_to none same sent) = same_dials m n (ap (λ (q : Queue). q.jobs) (sym same))
-given_dials s m n t modem r (Best_to j best none same sent) = subst (KeepsDials m) same (placed_dials m j.number j (granted j modem m.next_grant).job best.goes.there refl refl)
+given_dials s m n t modem r (Best_to j best none same sent) = subst (AllDials m) same (placed_dials m j.number j (granted j modem m.next_grant).job best.goes.there refl refl)
 
-report_dials : (s : Settings) (m n : Queue) (t a : ℕ) (z : Report) → Reported s m n t a z → KeepsDials m n
+report_dials : (s : Settings) (m n : Queue) (t a : ℕ) (z : Report) → Reported s m n t a z → AllDials m n
 report_dials s m n t a z it =
     let f = reported_in z s.delay t it.job it.grant it.both it.made in
-    subst (KeepsDials m) it.left
+    subst (AllDials m) it.left
     (placed_dials m it.grant.job it.job it.both.job it.of (f.number ∙ numbered_job m it.grant.job it.job it.of) (report_dial z s.delay t it.job it.grant it.both it.made))
 
+all_dials : (s : Settings) (m n : Queue) (t : ℕ) (request : Ask) (r : Reply) → Sound m → ((before : ℕ) → request ≢ Purge before) → act s m t request ≡ Taken n r → AllDials m n
+all_dials s m n t (Submission o) r h other e = submission_dials m n (s.rule o.dial) (submit o (s.rule o.dial) m.next_job s.max_jobs t) r e
+all_dials s m n t (Bring i) r h other e = import_dials s m n t (s.rule i.order.dial) (bring i (s.rule i.order.dial) m.next_job s.max_jobs t) r e
+all_dials s m n t (OnJob b a) r h other e = on_job_dials s m n t b a (job_numbered b m) r refl e
+all_dials s m n t (Mark modem down) r h other e = marked_dials m n modem down (has_modem s modem) r e
+all_dials s m n t (Next modem) r h other e = given_dials s m n t modem r (given_is s m t modem n r h e)
+all_dials s m n t (OnGrant a z) r h other e = report_dials s m n t a z (on_grant_is s m t a z (grant_numbered a m) n r refl e)
+all_dials s m n t (GiveUp u) r h other e = same_dials m n (ap (λ (q : Queue). q.jobs) (sym (taken_same m n _ r e).0))
+all_dials s m n t (Purge before) r h other e = absurd (other before refl)
+
+-- each job that has an open grant is there still, and dials the same number
+abbrev pub KeepsDials : Queue → Queue → Type 0
+KeepsDials m n = (x : ℕ) (j : Job) → IsJob m x j → (a : ℕ) (g : Grant) → IsOpen m a g → g.job ≡ x → (k : Job) × IsJob n x k × (k.dial ≡ j.dial)
+
+-- a purge leaves the jobs with open grants
+purged_dials : (m n : Queue) (before : ℕ) (b : Bool) (r : Reply) → Sound m → cond b (Refused refusal.PurgeHigh NoKeys) (Taken (without_jobs (leaving before m) m) (Purged (length (leaving before m)))) ≡ Taken n r → KeepsDials m n
+purged_dials m n before true r h e = cc
+purged_dials m n before false r h e =
+    subst (KeepsDials m) (taken_same (without_jobs (leaving before m) m) n _ r e).0 (λ x j is a g o its.
+    let there = ap (is_none_of (leaving before m)) (numbered_job m x j is ∙ sym its) ∙ open_stays m before a g h o in
+    (j, job_after m (leaving before m) h x j is there, refl))
+
+none_leave : (m n : Queue) → AllDials m n → KeepsDials m n
+none_leave m n h x j is a g o its = h x j is
+
 act_dials : (s : Settings) (m n : Queue) (t : ℕ) (request : Ask) (r : Reply) → Sound m → act s m t request ≡ Taken n r → KeepsDials m n
-act_dials s m n t (Submission o) r h e = submission_dials m n (s.rule o.dial) (submit o (s.rule o.dial) m.next_job s.max_jobs t) r e
-act_dials s m n t (Bring i) r h e = import_dials s m n t (s.rule i.order.dial) (bring i (s.rule i.order.dial) m.next_job s.max_jobs t) r e
-act_dials s m n t (OnJob b a) r h e = on_job_dials s m n t b a (job_numbered b m) r refl e
-act_dials s m n t (Mark modem down) r h e = marked_dials m n modem down (has_modem s modem) r e
-act_dials s m n t (Next modem) r h e = given_dials s m n t modem r (given_is s m t modem n r h e)
-act_dials s m n t (OnGrant a z) r h e = report_dials s m n t a z (on_grant_is s m t a z (grant_numbered a m) n r refl e)
-act_dials s m n t (GiveUp u) r h e = same_dials m n (ap (λ (q : Queue). q.jobs) (sym (taken_same m n _ r e).0))
+act_dials s m n t (Submission o) r h e = none_leave m n (all_dials s m n t (Submission o) r h (λ before is. cc) e)
+act_dials s m n t (Bring i) r h e = none_leave m n (all_dials s m n t (Bring i) r h (λ before is. cc) e)
+act_dials s m n t (OnJob b a) r h e = none_leave m n (all_dials s m n t (OnJob b a) r h (λ before is. cc) e)
+act_dials s m n t (Mark modem down) r h e = none_leave m n (all_dials s m n t (Mark modem down) r h (λ before is. cc) e)
+act_dials s m n t (Next modem) r h e = none_leave m n (all_dials s m n t (Next modem) r h (λ before is. cc) e)
+act_dials s m n t (OnGrant a z) r h e = none_leave m n (all_dials s m n t (OnGrant a z) r h (λ before is. cc) e)
+act_dials s m n t (GiveUp u) r h e = none_leave m n (all_dials s m n t (GiveUp u) r h (λ before is. cc) e)
+act_dials s m n t (Purge before) r h e = purged_dials m n before (nat_lt t before) r h e
 
 -- a job of the aged queue
 pub aged_there : (t : ℕ) (m : Queue) (x : ℕ) (j : Job) → IsJob m x j → IsJob (aged t m) x (aged_job t j)
@@ -216,6 +245,6 @@ unaged_there t m x j is =
 
 -- so it is with each step
 pub step_dials : (s : Settings) (m n : Queue) (t : ℕ) (request : Ask) (r : Reply) → Sound m → step s m t request ≡ Taken n r → KeepsDials m n
-step_dials s m n t request r h e = by_stamp (KeepsDials m) t (aged t m) (act s (aged t m) t request) n r e (λ k taken x j is.
-    let on = act_dials s (aged t m) k t request r (aged_sound t m h) taken x (aged_job t j) (aged_there t m x j is) in
+step_dials s m n t request r h e = by_stamp (KeepsDials m) t (aged t m) (act s (aged t m) t request) n r e (λ k taken x j is a g o its.
+    let on = act_dials s (aged t m) k t request r (aged_sound t m h) taken x (aged_job t j) (aged_there t m x j is) a g o its in
     (on.0, on.1, on.2 ∙ aged_dial t j))

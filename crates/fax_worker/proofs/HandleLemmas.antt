@@ -36,7 +36,7 @@ pub stays_by : (modem : List ℕ) (m : Queue) (f : Fed) (n : Queue) (r : Reply) 
     → ((a : ℕ) (g : Grant) (x : Report) → IsOpen m a g → g.modem ≡ modem → f.post.request.ask ≢ OnGrant a x) → Stays modem m (left_by m (step_of m f))
 stays_by modem m f n r sound taken none = (
   λ a g is of_modem.
-      let there = grant_stays f.settings m n (decided_at m.clock f.post.request.moment) f.post.request.ask r a g sound taken (λ x. none a g x is of_modem) is.0 in
+      let there = grant_stays f.settings m n (decided_at m.clock f.post.request.moment) f.post.request.ask r a g sound taken (λ x. none a g x is of_modem) is in
       subst (λ (x : Step). grant_numbered a (left_by m x) ≡ Some g) (sym taken) there,
   subst (λ (x : Step). KeepsDials m (left_by m x)) (sym taken) (step_dials f.settings m n (decided_at m.clock f.post.request.moment) f.post.request.ask r sound taken),
 )
@@ -277,7 +277,7 @@ module _ (first : World) (modem : List ℕ) where
         pub late_untaken : ((p : Pending) → w.unanswered ≡ Some p → p.number ≢ k) → Inv first modem w fs bs us win
         late_untaken other =
             with_told us us_low
-            (stands_still m m fs fs ts us w.unanswered w.held ((λ a g is of_modem. is.0), (λ x j is. (j, is, refl))) (λ p e. (refl, λ a x. (other_sent p.number (other p e) a x, λ kept. kept))) i.stands)
+            (stands_still m m fs fs ts us w.unanswered w.held ((λ a g is of_modem. is.0), (λ x j is a g o its. (j, is, refl))) (λ p e. (refl, λ a x. (other_sent p.number (other p e) a x, λ kept. kept))) i.stands)
 
         module _ (is : w.unanswered ≡ Some (record { number = k; ask = ask })) where
           above : nat_lt (floors_after first.start fs f.post.client) k ≡ true

@@ -24,7 +24,7 @@ use Rattle.fax_core.specs.declared.report.Report.TheVariants as report
 use Rattle.fax_core.specs.declared.state.State.TheVariants as sendq
 use Rattle.fax_core.specs.Ageing.{aged, aged_job, expires, is_past}
 use Rattle.fax_core.specs.declared.ask.Ask.{Ask}
-use Rattle.fax_core.specs.declared.ask.Ask.TheVariants.{Submission, Bring, OnJob, Mark, Next, OnGrant, GiveUp}
+use Rattle.fax_core.specs.declared.ask.Ask.TheVariants.{Submission, Bring, OnJob, Mark, Next, OnGrant, GiveUp, Purge}
 use Rattle.fax_core.specs.declared.ask.JobAsk.{JobAsk}
 use Rattle.fax_core.specs.declared.ask.JobAsk.TheVariants as ask
 use Rattle.fax_core.specs.Decisions.{JobAndGrant, after_call, alter_in, altered, call, ended, ended_by, grant_reported, granted, is_empty, is_kill, is_over, is_done, job_asked, kill_in, new_job, outcome, phase_after, resume_in, retried, submit, suspend_in}
@@ -33,8 +33,9 @@ use Rattle.fax_core.specs.Job.{Job}
 use Rattle.fax_core.specs.Laws.{NumbersAfter}
 use Rattle.fax_core.specs.Machine as machine
 use Rattle.fax_core.specs.Machine.{act, brought_in, changed, on_grant, on_job, report_reply, step, submitted, with_both, with_job, with_mark, with_new_job}
+use Rattle.fax_core.specs.Purge.{leaving, without_jobs}
 use Rattle.fax_core.specs.Queue.{Queue, grant_numbered, job_numbered}
-use Rattle.fax_core.specs.Reply.{Brought, Marked, NoKeys, Reply, Taken, Refused}
+use Rattle.fax_core.specs.Reply.{Brought, Marked, NoKeys, Purged, Reply, Taken, Refused}
 use Rattle.fax_core.specs.Settings.{Rule, Settings, has_modem}
 use Rattle.fax_core.specs.Sound.{IsJob, IsOpen, Sound}
 use Rattle.fax_core.specs.State.{state, state_number}
@@ -42,6 +43,7 @@ use Rattle.fax_core.proofs.DecisionLemmas.{aged_number, aged_sent, asked_in, not
 use Rattle.fax_core.proofs.ImportLemmas.{bring_counts, bring_is}
 use Rattle.fax_core.proofs.KeepLemmas.{looked_up, numbered_job, same_job}
 use Rattle.fax_core.proofs.BroughtLemmas.{came}
+use Rattle.fax_core.proofs.LeaveLemmas.{job_before}
 use Rattle.fax_core.proofs.NumberLemmas.{step_numbers}
 use Rattle.fax_core.proofs.PageLemmas.{Reported, on_grant_is}
 use Rattle.fax_core.proofs.PlaceLemmas.{absent, either, mapped, placed}
@@ -352,6 +354,13 @@ report_made s m n t a (report.Outcome o) r sound it =
     other_made s m n t a (report.Outcome o) r it (λ b p e. cc e) (ap (λ (z : Job). z.sent) is ∙ ended_sent it.job.left o it.job (s.delay it.grant.call) t)
     (λ h. subst IsWhole (sym is) (ended_whole it.job.left o it.job (s.delay it.grant.call) t refl))
 
+-- a purge leaves the jobs that stay as they are
+purged_made : (m n : Queue) (before : ℕ) (b : Bool) (r : Reply) → Sound m → cond b (Refused refusal.PurgeHigh NoKeys) (Taken (without_jobs (leaving before m) m) (Purged (length (leaving before m)))) ≡ Taken n r → (x : ℕ) (y : Job) → IsJob n x y → Made m (Purge before) r x y
+purged_made m n before true r h e x y is = cc
+purged_made m n before false r h e x y is =
+    let there = subst (λ (q : Queue). IsJob q x y) (sym (taken_same (without_jobs (leaving before m) m) n _ r e).0) is in
+    Was y (job_before m (leaving before m) h x y there).0 refl (λ w. w) (no_page_of m (Purge before) x (λ a p e. cc e))
+
 -- ---- each request
 
 -- each job in the queue that a request leaves was there before, or is new
@@ -363,6 +372,7 @@ act_made s m n t (Mark modem down) r h e = same_made m n (Mark modem down) r (λ
 act_made s m n t (Next modem) r h e = given_made s m n t modem (Next modem) r (λ a p e. cc e) (given_is s m t modem n r h e)
 act_made s m n t (OnGrant a z) r h e = report_made s m n t a z r h (on_grant_is s m t a z (grant_numbered a m) n r refl e)
 act_made s m n t (GiveUp u) r h e = same_made m n (GiveUp u) r (λ a p e. cc e) (ap (λ (q : Queue). q.jobs) (sym (taken_same m n _ r e).0))
+act_made s m n t (Purge before) r h e = purged_made m n before (nat_lt t before) r h e
 
 -- the same of a step, which ages the jobs first
 pub step_made : (s : Settings) (m n : Queue) (t : ℕ) (request : Ask) (r : Reply) → Sound m → step s m t request ≡ Taken n r → (x : ℕ) (y : Job) → IsJob n x y → Made m request r x y
@@ -411,6 +421,10 @@ marked_brings m n modem down false r e x = cc
 given_brings : (s : Settings) (m n : Queue) (t : ℕ) (modem : List ℕ) (r : Reply) → GivenTo s m t modem n r → BringsNone r
 given_brings s m n t modem r (None_to none same told) x = ap (λ (q : Reply). brings q x) (sym told)
 given_brings s m n t modem r (Best_to j best none same told) x = ap (λ (q : Reply). brings q x) (sym told)
+
+purged_brings : (m n : Queue) (before : ℕ) (b : Bool) (r : Reply) → cond b (Refused refusal.PurgeHigh NoKeys) (Taken (without_jobs (leaving before m) m) (Purged (length (leaving before m)))) ≡ Taken n r → BringsNone r
+purged_brings m n before true r e x = cc
+purged_brings m n before false r e x = ap (λ (q : Reply). brings q x) (sym (taken_same (without_jobs (leaving before m) m) n _ r e).1)
 
 report_brings : (s : Settings) (t : ℕ) (z : Report) (q : Queue) (b : JobAndGrant) → BringsNone (report_reply s t z q b)
 report_brings s t (report.Call c) q b x = refl
@@ -465,6 +479,9 @@ step_brings s m n t (OnGrant a z) r x h e on =
 step_brings s m n t (GiveUp u) r x h e on =
     let taken = taken_act s m n t (GiveUp u) r e in
     absurd (not_both (brings r x) (ap (λ (q : Reply). brings q x) (sym (taken_same (aged t m) taken.0 _ r taken.1).1)) on)
+step_brings s m n t (Purge before) r x h e on =
+    let taken = taken_act s m n t (Purge before) r e in
+    absurd (not_both (brings r x) (purged_brings (aged t m) taken.0 before (nat_lt t before) r taken.1 x) on)
 
 -- a job has a number below the next
 pub below_next : (m : Queue) (x : ℕ) (j : Job) → Sound m → IsJob m x j → x < m.next_job

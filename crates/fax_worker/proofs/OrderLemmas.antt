@@ -13,13 +13,14 @@ use Rattle.fax_core.specs.declared.grants.Grant.{Grant}
 use Rattle.fax_core.specs.declared.report.Report.TheVariants.{Page}
 use Rattle.fax_core.specs.Clock.{decided_at}
 use Rattle.fax_core.specs.Job.{HasPages, Job}
+use Rattle.fax_core.specs.Laws.{IsGone}
 use Rattle.fax_core.specs.Queue.{Queue, grant_numbered, job_numbered}
 use Rattle.fax_core.specs.Reply.{Step}
 use Rattle.fax_core.specs.Run.{Answer, left_by}
 use Rattle.fax_core.specs.Settings.{Settings}
 use Rattle.fax_core.specs.Sound.{IsJob, IsOpen, Sound}
 use Rattle.fax_core.proofs.KeepLemmas.{same_job}
-use Rattle.fax_core.proofs.PageLemmas.{step_keeps}
+use Rattle.fax_core.proofs.PageLemmas.{KeepsSent, step_keeps}
 use Rattle.fax_core.proofs.RangeLemmas.{joined}
 use Rattle.fax_run.specs.Counts.{brought_with, brings, came_in, no_counters, takes_in}
 use Rattle.fax_run.specs.Reading.{Post}
@@ -41,10 +42,11 @@ pub data WaitsFor (first : World) (worker : List ℕ → Worker) (win : List ℕ
   Unaccepted : (modem : List ℕ) → first.has modem ≡ true → (n grant page : ℕ) (h : Held) → (worker modem).unanswered ≡ Some (record { number = n; ask = OnGrant grant (Page page) })
       → (worker modem).held ≡ Some h → h.job ≡ job → is_accepted first modem fs n ≡ false → WaitsFor first worker win fs job
 
--- the job isn't there; or its pages are as many as are sent and none waits, or one more and it waits
+-- the job isn't there, or has left; or its pages are as many as are sent and none waits, or one more and it waits
 pub data Ordered (first : World) (worker : List ℕ → Worker) (win : List ℕ → Option PageOf) (pages : List ℕ) (fs : List Fed) (job : ℕ) : Type 0 where
   No_job : job_numbered job (queue_after first.start.queue fs) ≡ None → job_numbered job first.start.queue ≡ None → (brought_with first.start.queue job fs).npages ≡ 0 → pages ≡ []
       → Ordered first worker win pages fs job
+  Has_left : IsGone (queue_after first.start.queue fs) job → Ordered first worker win pages fs job
   Even : (j : Job) → IsJob (queue_after first.start.queue fs) job j → IsWhole j → sent_before first fs job ≤ length j.sent → pages ≡ pages_after (sent_before first fs job) (length j.sent)
       → (WaitsFor first worker win fs job → ⊥) → Ordered first worker win pages fs job
   Odd : (j : Job) → IsJob (queue_after first.start.queue fs) job j → IsWhole j → sent_before first fs job ≤ length j.sent → pages ≡ pages_after (sent_before first fs job) (length j.sent + 1)
@@ -55,6 +57,7 @@ ordered_same : (first : World) (worker later : List ℕ → Worker) (win after :
     → (WaitsFor first worker win fs job → WaitsFor first later after fs job) → (WaitsFor first later after fs job → WaitsFor first worker win fs job)
     → Ordered first worker win pages fs job → Ordered first later after pages fs job
 ordered_same first worker later win after pages fs job on back (No_job none at brought is) = No_job none at brought is
+ordered_same first worker later win after pages fs job on back (Has_left gone) = Has_left gone
 ordered_same first worker later win after pages fs job on back (Even j there whole few is none) = Even j there whole few is (λ w. none (back w))
 ordered_same first worker later win after pages fs job on back (Odd j there whole few is waits) = Odd j there whole few is (on waits)
 
@@ -278,6 +281,7 @@ module _ (first : World) (earlier : List Event) (at : IsFirst first) (is : IsTra
       by : Ordered first (worker_at first earlier) (window earlier) (pages_of job earlier) fs job
           → Ordered first (worker_at first (Transmits modem job page ∷ earlier)) (window (Transmits modem job page ∷ earlier)) (pages_of job earlier ++ page ∷ []) fs job
       by (No_job none start brought pages) = absurd (let there = its.1 in cc)
+      by (Has_left gone) = absurd (let there = its.1 in let none = gone.absent in cc (none, there))
       by (Odd j there whole few pages waits) = absurd (none_waits modem page may waits)
       by (Even j there whole few pages none) =
           let same : length its.0.sent ≡ length j.sent = ap (λ (x : Job). length x.sent) (same_job m job its.0 j its.1 there) in
@@ -307,11 +311,16 @@ module _ (first : World) (earlier : List Event) (at : IsFirst first) (is : IsTra
     made : (y : Job) → IsJob next job y → Made m ask it.reply job y
     made y there = step_made s m it.after (decided_at m.clock p.request.moment) ask it.reply (good first earlier at is) it.taken job y (subst (λ (q : Queue). IsJob q job y) leaves there)
 
-    -- a job that is there stays
-    still : (j : Job) → IsJob m job j → (y : Job) × IsJob next job y
-    still j there =
-        let more = step_keeps s m it.after (decided_at m.clock p.request.moment) ask it.reply (good first earlier at is) it.taken job j there in
-        (more.job, subst (λ (q : Queue). IsJob q job more.job) (sym leaves) more.there)
+    -- the step keeps what is sent
+    keeps : KeepsSent m next
+    keeps = subst (KeepsSent m) (sym leaves) (step_keeps s m it.after (decided_at m.clock p.request.moment) ask it.reply (good first earlier at is) it.taken)
+
+    -- a job that is there stays, or leaves
+    still : (j : Job) → IsJob m job j → ((y : Job) × IsJob next job y) ⊎ IsGone next job
+    still j there = elim (keeps.sent job j there) [
+      | inl more ↦ inl (more.job, more.there)
+      | inr gone ↦ inr gone
+    ]
 
     -- what a job came in with
     brought_now : (brought_with first.start.queue job (f ∷ fs)).npages ≡ (cond (brings it.reply job) (came_in ask) (brought_with first.start.queue job fs)).npages
@@ -459,26 +468,26 @@ module _ (first : World) (earlier : List Event) (at : IsFirst first) (is : IsTra
 
     -- one that was there
     even_later : (j : Job) → IsJob m job j → IsWhole j → sent_before first fs job ≤ length j.sent → pages ≡ pages_after (sent_before first fs job) (length j.sent) → (Waits → ⊥) → Later
-    even_later j there whole few is_pages none = let y = still j there in by y.0 y.1 (made y.0 y.1)
+    even_later j there whole few is_pages none = elim (still j there) [ inl y ↦ by y.0 y.1 (made y.0 y.1) | inr gone ↦ Has_left gone ]
       where
         by : (y : Job) → IsJob next job y → Made m ask it.reply job y → Later
-        by y at' (Was k also sent keeps plain) =
+        by y at' (Was k also sent whole_still plain) =
             let same : length y.sent ≡ length j.sent = ap length sent ∙ same_length k j also there in
             let before = before_same j there in
-            Even y at' (keeps (subst IsWhole (same_job m job j k there also) whole)) (omega (arith, few, same, before))
+            Even y at' (whole_still (subst IsWhole (same_job m job j k there also) whole)) (omega (arith, few, same, before))
             (is_pages ∙ ap (λ (i : ℕ). pages_after i (length j.sent)) (sym before) ∙ ap (λ (i : ℕ). pages_after (sent_before first (f ∷ fs) job) i) (sym same))
             (λ w. none (waits_back w))
         by y at' (Paged a page g k asks open' of also sent its_whole) = absurd (none (its_waits a page g asks open' of))
         by y at' (Is_new no_job count its_whole) = absurd (cc (no_job, there))
 
     odd_later : (j : Job) → IsJob m job j → IsWhole j → sent_before first fs job ≤ length j.sent → pages ≡ pages_after (sent_before first fs job) (length j.sent + 1) → Waits → Later
-    odd_later j there whole few is_pages w = let y = still j there in by y.0 y.1 (made y.0 y.1)
+    odd_later j there whole few is_pages w = elim (still j there) [ inl y ↦ by y.0 y.1 (made y.0 y.1) | inr gone ↦ Has_left gone ]
       where
         by : (y : Job) → IsJob next job y → Made m ask it.reply job y → Later
-        by y at' (Was k also sent keeps plain) =
+        by y at' (Was k also sent whole_still plain) =
             let same : length y.sent ≡ length j.sent = ap length sent ∙ same_length k j also there in
             let before = before_same j there in
-            Odd y at' (keeps (subst IsWhole (same_job m job j k there also) whole)) (omega (arith, few, same, before))
+            Odd y at' (whole_still (subst IsWhole (same_job m job j k there also) whole)) (omega (arith, few, same, before))
             (is_pages ∙ ap (λ (i : ℕ). pages_after i (length j.sent + 1)) (sym before) ∙ ap (λ (i : ℕ). pages_after (sent_before first (f ∷ fs) job) (i + 1)) (sym same))
             (waits_on plain w)
         by y at' (Paged a page g k asks open' of also sent its_whole) =
@@ -491,6 +500,7 @@ module _ (first : World) (earlier : List Event) (at : IsFirst first) (is : IsTra
 
     later : Ordered first (worker_at first earlier) (window earlier) pages fs job → Later
     later (No_job none start brought no_pages) = new_later none start brought no_pages (job_numbered job next) refl
+    later (Has_left gone) = Has_left (keeps.gone job gone)
     later (Even j there whole few is_pages none) = even_later j there whole few is_pages none
     later (Odd j there whole few is_pages w) = odd_later j there whole few is_pages w
 
@@ -560,6 +570,7 @@ in_order_at_the_receiver first trace at whole is u job j there = by (in_order fi
   where
     by : In_order first trace job → PagesGoInOrder first trace job j
     by (No_job none start brought pages) = absurd (cc (none, there))
+    by (Has_left gone) = absurd (let none = gone.absent in cc (none, there))
     by (Even k also its_whole few pages none) =
         let same : k ≡ j = same_job (queue_at first trace) job k j also there in
         let sent : length k.sent ≡ length j.sent = ap (λ (x : Job). length x.sent) same in

@@ -1,6 +1,6 @@
 -- What a step of the queue does to a grant: reports that fit it are accepted, and nothing else changes it.
 use Rattle.std.proofs.Common.{◌≡◌, ◌≢◌, inl, inr, ℕ, suc, ◌+◌, ◌-◌, ◌<◌, ◌≤◌, Bool, true, false, cond, not, ◌&&◌, eqb, List, [], ◌∷◌, ◌++◌, length, Option, Some, None, refl, sym, ap, subst, ◌∙◌, arith}
-use Rattle.std.specs.Prelude.{Result, Ok, Err, find, is_some, is_none}
+use Rattle.std.specs.Prelude.{Result, Ok, Err, find, is_some, is_none, nat_lt}
 use Rattle.std.specs.List.{range_with_len}
 use Rattle.std.proofs.lemmas.Bool.{eq-eqb, not-false}
 use Rattle.fax_job.specs.declared.job.Call.{Call}
@@ -15,18 +15,21 @@ use Rattle.fax_core.specs.declared.report.Report.{Report}
 use Rattle.fax_core.specs.declared.report.Report.TheVariants as report
 use Rattle.fax_core.specs.Ageing.{aged, aged_job}
 use Rattle.fax_core.specs.declared.ask.Ask.{Ask}
-use Rattle.fax_core.specs.declared.ask.Ask.TheVariants.{Submission, Bring, OnJob, Mark, Next, OnGrant, GiveUp}
+use Rattle.fax_core.specs.declared.ask.Ask.TheVariants.{Submission, Bring, OnJob, Mark, Next, OnGrant, GiveUp, Purge}
 use Rattle.fax_core.specs.declared.ask.JobAsk.{JobAsk}
 use Rattle.fax_core.specs.Decisions.{JobAndGrant, after_call, call, ended, grant_reported, granted, is_connected, is_done, is_empty, job_asked, outcome, page, page_of, submit}
 use Rattle.fax_core.specs.Import.{bring}
 use Rattle.fax_core.specs.Job.{Job}
 use Rattle.fax_core.specs.Machine.{act, brought_in, changed, handed, on_both, on_grant, on_job, report_reply, given_to, stamped, step, submitted, with_both, with_job, with_mark, with_new_grant, with_new_job, dial_of}
 use Rattle.fax_core.specs.Machine as machine
+use Rattle.fax_core.specs.Purge.{is_none_of, leaving, without_jobs}
 use Rattle.fax_core.specs.Queue.{Queue, grant_numbered, job_numbered}
-use Rattle.fax_core.specs.Reply.{Given, Handed, Marked, NoKeys, Reply, Taken, Refused}
+use Rattle.fax_core.specs.Reply.{Given, Handed, Marked, NoKeys, Purged, Reply, Taken, Refused}
 use Rattle.fax_core.specs.Settings.{Rule, Settings, has_modem}
 use Rattle.fax_core.specs.Sound.{FitsGrant, IsJob, IsOpen, Sound}
 use Rattle.fax_core.proofs.DecisionLemmas.{not_refused, ok_same, reported_in}
+use Rattle.fax_core.proofs.GrantLemmas.{open_stays}
+use Rattle.fax_core.proofs.LeaveLemmas.{found_after, found_before}
 use Rattle.fax_core.proofs.KeepLemmas.{Grants, found_new, numbered_grant, numbered_job, same_job}
 use Rattle.fax_core.proofs.PageLemmas.{Reported, on_grant_is, tail_is}
 use Rattle.fax_core.proofs.PlaceLemmas.{either, placed, placed_here, placed_other, stays}
@@ -129,21 +132,29 @@ other_stays s m n t b x a g it other is =
     let its : it.both.grant.number ≢ a = λ q. other (sym (numbered_grant m b it.grant it.is) ∙ sym (reported_number s m n t b x it) ∙ q) in
     subst (λ (q : Queue). grant_numbered a q ≡ Some g) it.left (placed_other (λ (z : Grant). z.number) a it.both.grant g m.grants is its)
 
--- a request that isn't a report on a grant leaves it
+-- a purge leaves the open grants
+purged_stays : (m n : Queue) (before : ℕ) (b : Bool) (r : Reply) (a : ℕ) (g : Grant) → Sound m → cond b (Refused refusal.PurgeHigh NoKeys) (Taken (without_jobs (leaving before m) m) (Purged (length (leaving before m)))) ≡ Taken n r → IsOpen m a g → grant_numbered a n ≡ Some g
+purged_stays m n before true r a g h e o = cc
+purged_stays m n before false r a g h e o =
+    subst (λ (q : Queue). grant_numbered a q ≡ Some g) (taken_same (without_jobs (leaving before m) m) n _ r e).0
+    (found_after (λ (z : Grant). z.number) (λ (z : Grant). is_none_of (leaving before m) z.job) m.next_grant a m.grants g h.grants o.0 (open_stays m before a g h o))
+
+-- a request that isn't a report on a grant leaves it, while it is open
 acted_stays : (s : Settings) (m n : Queue) (t : ℕ) (ask : Ask) (r : Reply) (a : ℕ) (g : Grant) → Sound m → act s (aged t m) t ask ≡ Taken n r
-    → ((x : Report) → ask ≢ OnGrant a x) → grant_numbered a m ≡ Some g → grant_numbered a n ≡ Some g
-acted_stays s m n t (Submission o) r a g h e other is = found_same m n a g (submission_same (aged t m) n (s.rule o.dial) (submit o (s.rule o.dial) m.next_job s.max_jobs t) r e) is
-acted_stays s m n t (Bring i) r a g h e other is = found_same m n a g (import_same s (aged t m) n t (s.rule i.order.dial) (bring i (s.rule i.order.dial) m.next_job s.max_jobs t) r e) is
-acted_stays s m n t (OnJob b ask) r a g h e other is = found_same m n a g (on_job_same s (aged t m) n t ask (job_numbered b (aged t m)) r e) is
-acted_stays s m n t (Mark modem down) r a g h e other is = found_same m n a g (marked_same (aged t m) n modem down (has_modem s modem) r e) is
-acted_stays s m n t (Next modem) r a g h e other is = given_stays s (aged t m) n t modem r a g (given_is s (aged t m) t modem n r (aged_sound t m h) e) is
+    → ((x : Report) → ask ≢ OnGrant a x) → IsOpen m a g → grant_numbered a n ≡ Some g
+acted_stays s m n t (Submission o) r a g h e other is = found_same m n a g (submission_same (aged t m) n (s.rule o.dial) (submit o (s.rule o.dial) m.next_job s.max_jobs t) r e) is.0
+acted_stays s m n t (Bring i) r a g h e other is = found_same m n a g (import_same s (aged t m) n t (s.rule i.order.dial) (bring i (s.rule i.order.dial) m.next_job s.max_jobs t) r e) is.0
+acted_stays s m n t (OnJob b ask) r a g h e other is = found_same m n a g (on_job_same s (aged t m) n t ask (job_numbered b (aged t m)) r e) is.0
+acted_stays s m n t (Mark modem down) r a g h e other is = found_same m n a g (marked_same (aged t m) n modem down (has_modem s modem) r e) is.0
+acted_stays s m n t (Next modem) r a g h e other is = given_stays s (aged t m) n t modem r a g (given_is s (aged t m) t modem n r (aged_sound t m h) e) is.0
 acted_stays s m n t (OnGrant b x) r a g h e other is =
-    other_stays s (aged t m) n t b x a g (on_grant_is s (aged t m) t b x (grant_numbered b (aged t m)) n r refl e) (λ q. other x (ap (λ (i : ℕ). OnGrant i x) q)) is
-acted_stays s m n t (GiveUp upto) r a g h e other is = found_same m n a g (ap (λ (q : Queue). q.grants) (sym (taken_same (aged t m) n _ r e).0)) is
+    other_stays s (aged t m) n t b x a g (on_grant_is s (aged t m) t b x (grant_numbered b (aged t m)) n r refl e) (λ q. other x (ap (λ (i : ℕ). OnGrant i x) q)) is.0
+acted_stays s m n t (GiveUp upto) r a g h e other is = found_same m n a g (ap (λ (q : Queue). q.grants) (sym (taken_same (aged t m) n _ r e).0)) is.0
+acted_stays s m n t (Purge before) r a g h e other is = purged_stays (aged t m) n before (nat_lt t before) r a g (aged_sound t m h) e is
 
 -- so does its step, which sets the times of the jobs
 pub grant_stays : (s : Settings) (m n : Queue) (t : ℕ) (ask : Ask) (r : Reply) (a : ℕ) (g : Grant) → Sound m → step s m t ask ≡ Taken n r
-    → ((x : Report) → ask ≢ OnGrant a x) → grant_numbered a m ≡ Some g → grant_numbered a n ≡ Some g
+    → ((x : Report) → ask ≢ OnGrant a x) → IsOpen m a g → grant_numbered a n ≡ Some g
 grant_stays s m n t ask r a g h e other is =
     by_stamp (λ q. grant_numbered a q ≡ Some g) t (aged t m) (act s (aged t m) t ask) n r e (λ k taken. acted_stays s m k t ask r a g h taken other is)
 
@@ -194,6 +205,13 @@ calls_reported s m n t b x it h = subst CallsComeFirst it.left (λ a g is.
       | inr c ↦ subst HasCall (sym c.1) (h a p.before p.was)
     ])
 
+-- so have those that a purge leaves
+calls_purged : (m n : Queue) (before : ℕ) (b : Bool) (r : Reply) → Sound m → cond b (Refused refusal.PurgeHigh NoKeys) (Taken (without_jobs (leaving before m) m) (Purged (length (leaving before m)))) ≡ Taken n r → CallsComeFirst m → CallsComeFirst n
+calls_purged m n before true r h e first = cc
+calls_purged m n before false r h e first =
+    subst CallsComeFirst (taken_same (without_jobs (leaving before m) m) n _ r e).0 (λ a g is.
+    first a g (found_before (λ (z : Grant). z.number) (λ (z : Grant). is_none_of (leaving before m) z.job) m.next_grant a m.grants g h.grants is).0)
+
 -- each request keeps it so
 acted_calls : (s : Settings) (m n : Queue) (t : ℕ) (ask : Ask) (r : Reply) → Sound m → act s (aged t m) t ask ≡ Taken n r → CallsComeFirst m → CallsComeFirst n
 acted_calls s m n t (Submission o) r h e = calls_same m n (submission_same (aged t m) n (s.rule o.dial) (submit o (s.rule o.dial) m.next_job s.max_jobs t) r e)
@@ -203,6 +221,7 @@ acted_calls s m n t (Mark modem down) r h e = calls_same m n (marked_same (aged 
 acted_calls s m n t (Next modem) r h e = calls_given s (aged t m) n t modem r (given_is s (aged t m) t modem n r (aged_sound t m h) e)
 acted_calls s m n t (OnGrant b x) r h e = calls_reported s (aged t m) n t b x (on_grant_is s (aged t m) t b x (grant_numbered b (aged t m)) n r refl e)
 acted_calls s m n t (GiveUp upto) r h e = calls_same m n (ap (λ (q : Queue). q.grants) (sym (taken_same (aged t m) n _ r e).0))
+acted_calls s m n t (Purge before) r h e = calls_purged (aged t m) n before (nat_lt t before) r (aged_sound t m h) e
 
 -- so does its step
 pub calls_first : (s : Settings) (m n : Queue) (t : ℕ) (ask : Ask) (r : Reply) → Sound m → step s m t ask ≡ Taken n r → CallsComeFirst m → CallsComeFirst n

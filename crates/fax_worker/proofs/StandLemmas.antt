@@ -192,16 +192,16 @@ answer_new start fs f above plain unused = answer_above start fs f above ∙ rep
 
 -- ---- agreement stays
 
--- the open grants of a modem stay as they are, and each job dials the same number
+-- the open grants of a modem stay as they are, and each job that has one dials the same number
 abbrev pub Stays : List ℕ → Queue → Queue → Type 0
 Stays modem m n = ((a : ℕ) (g : Grant) → IsOpen m a g → g.modem ≡ modem → grant_numbered a n ≡ Some g) × KeepsDials m n
 
 -- so agreement stays
 pub agrees_still : (modem : List ℕ) (m n : Queue) (h : Held) → Stays modem m n → Agrees m modem h → Agrees n modem h
 agrees_still modem m n h (stays, dials) a = record {
-  job = (dials h.job a.job a.there).0;
-  there = (dials h.job a.job a.there).1;
-  dial = (dials h.job a.job a.there).2 ∙ a.dial;
+  job = (dials h.job a.job a.there h.grant a.grant a.open_grant a.of_job).0;
+  there = (dials h.job a.job a.there h.grant a.grant a.open_grant a.of_job).1;
+  dial = (dials h.job a.job a.there h.grant a.grant a.open_grant a.of_job).2 ∙ a.dial;
   grant = a.grant;
   open_grant = (stays h.grant a.grant a.open_grant a.of_modem, a.open_grant.1);
   of_modem = a.of_modem;

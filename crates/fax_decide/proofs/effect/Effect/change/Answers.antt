@@ -64,3 +64,7 @@ pub returns-in_err-put_change-in-Closed-clause-changes : goal.returns-in_err-put
 returns-in_err-put_change-in-Closed-clause-changes g c m₀ m k₀ k suits works =
     refused_any _ _ m₀ _ _ k₀ _ _ c.in_err-put_change-in-Closed.ensures.leaves.fails
     (c.put_change-in-Closed.ensures.changes m₀ m k₀ k (rw c.in-Closed.is at suits) works)
+
+pub returns-in-Purged-clause-changes : goal.returns-in-Purged-clause-changes
+returns-in-Purged-clause-changes g c m₀ m k₀ k suits works =
+    rw (c.in-Purged.is, ← c.as_slice.ensures.value) (c.purge.ensures.changes m₀ m k₀ k (rw (c.in-Purged.is, ← c.as_slice.ensures.value) at suits) works)

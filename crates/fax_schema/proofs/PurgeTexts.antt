@@ -1,0 +1,47 @@
+-- What the texts mean by which jobs leave that are over.
+use Rattle.std.proofs.Common.{pos, List, [], ◌∷◌, codes, refl}
+use Rattle.sqlite.specs.Collation.TheVariants.{Binary}
+use Rattle.sqlite.specs.declared.types.Value.TheVariants.{Int}
+use Rattle.sqlite.specs.Command.TheVariants.{Delete}
+use Rattle.sqlite.specs.Listing.{understood}
+use Rattle.sqlite.specs.Query.{Query, end, inner}
+use Rattle.sqlite_sql.specs.Term.{Term, lit, col, op2}
+use Rattle.sqlite_sql.specs.declared.ops.BinaryOp.TheVariants.{Compare}
+use Rattle.sqlite_sql.specs.declared.ops.CompareOp.TheVariants.{Gt, Lt}
+use Rattle.sqlite_tied.specs.Compute.{everything}
+use Rattle.sqlite_value.specs.Keys.{ascending}
+use Rattle.fax_schema.specs.declared.statements.TheConstants.{DELETE_GRANTS, DELETE_JOB, DELETE_TIMES, SELECT_LEAVING}
+use Rattle.fax_schema.proofs.SelectLemmas.{rows_by}
+use Rattle.fax_schema.proofs.StatementForms.{equals, Commands, SelectsAll}
+use Rattle.fax_schema.proofs.StatementTexts.{job_tests}
+use Rattle.fax_schema.proofs.UpdateLemmas.{program_of, gone_project}
+use Rattle.fax_schema.specs.Schema.{grants_tree, jobs_tree, times_tree}
+
+abbrev pub leaving_tests : List Term
+leaving_tests = equals (col 2 0) (col 1 0) ∷ op2 (Compare Lt Binary) (col 1 3) (col 0 0) ∷ op2 (Compare Gt Binary) (col 2 18) (lit (Int (pos 2))) ∷ []
+
+abbrev pub leaving_query : Query
+leaving_query = record (rows_by times_tree leaving_tests (col 1 0 ∷ []) ((col 1 0, ascending Binary) ∷ [])) { from = inner times_tree (inner jobs_tree end); limit = lit (Int (pos 1000)) }
+
+-- SELECT_LEAVING reads the first of the jobs that are over and ended before a moment
+pub select_leaving : SelectsAll SELECT_LEAVING.now leaving_query (codes "job" ∷ [])
+unfolding understood everything
+select_leaving = record { command = refl; plain = (refl, refl); unlisted = refl }
+
+-- DELETE_JOB takes the job of a number away
+pub delete_job : Commands DELETE_JOB.now (Delete 0 (program_of jobs_tree job_tests gone_project))
+unfolding understood everything
+delete_job = record { is = refl; plain = (refl, refl) }
+
+-- DELETE_TIMES takes its times away
+pub delete_times : Commands DELETE_TIMES.now (Delete 7 (program_of times_tree job_tests gone_project))
+unfolding understood everything
+delete_times = record { is = refl; plain = (refl, refl) }
+
+abbrev pub grants_tests : List Term
+grants_tests = equals (col 1 2) (col 0 0) ∷ []
+
+-- DELETE_GRANTS takes its grants away
+pub delete_grants : Commands DELETE_GRANTS.now (Delete 1 (program_of grants_tree grants_tests gone_project))
+unfolding understood everything
+delete_grants = record { is = refl; plain = (refl, refl) }

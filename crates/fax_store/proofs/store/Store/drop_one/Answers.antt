@@ -1,0 +1,9 @@
+use Rattle.std.proofs.Common.{rules}
+use Rattle.fax_store.proofs.FrameLemmas.{edits_with, writes_where_by}
+use Rattle.fax_store.proofs.PurgeLemmas.{gone_params, job_gone}
+use Rattle.fax_store.proofs.store.Store.drop_one.Goals as goal
+
+pub returns : goal.returns
+returns g c =
+    let edits = edits_with g.S.Store _ _ _ _ _ (gone_params c.args.job) (search rules) c.run.ensures in
+    writes_where_by g.S.Store _ _ _ _ (gone_params c.args.job) 0 _ _ _ edits (λ m k idle means has. job_gone c.args.job _ _ m k means idle has)
