@@ -33,7 +33,7 @@ _faxqd() {
 
 _faxq() {
     local word=${COMP_WORDS[COMP_CWORD]} before=${COMP_WORDS[COMP_CWORD - 1]} command="" at words
-    local commands="submit status why suspend resume kill alter wait times again modems retire left"
+    local commands="submit status why suspend resume kill alter wait times again modems retire purge left"
     for ((at = 1; at < COMP_CWORD; at++)); do
         [[ " $commands " != *" ${COMP_WORDS[at]} "* ]] || { command=${COMP_WORDS[at]} && break; }
     done
@@ -47,6 +47,7 @@ _faxq() {
         *:why) words=$(compgen -W "--setup --controls --help" -- "$word") ;;
         *:alter) words=$(compgen -W "modem= jobtag= tts= killtime= priority= maxtries= maxdials=" -- "$word") ;;
         *:wait) words=$(compgen -W "--every --help" -- "$word") ;;
+        *:purge) words=$(compgen -W "--days --help" -- "$word") ;;
         *:modems) words=$(compgen -W "up down" -- "$word") ;;
         *) words=$(compgen -W "--help" -- "$word") ;;
     esac

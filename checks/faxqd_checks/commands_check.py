@@ -232,6 +232,3 @@ def copy_waiting(folder):
         expect_same(len(got), 1, "the replies to a submission")
         server.ends("behind a submission")
     copy_job(folder, 6, LARGE)
-    with database_of(folder / "queue.db") as database:
-        database.execute("INSERT INTO times SELECT job, submitted, ended FROM jobs, (SELECT submitted, ended FROM times WHERE job = 6) "
-                         "WHERE job > 6")

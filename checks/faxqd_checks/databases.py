@@ -1,9 +1,12 @@
 """Databases that the system's sqlite changed, and their listings. The group `server` has databases of other programs, older
 versions and VACUUM."""
+import contextlib
 import subprocess
 
+from .hostile_memory import messages_of
 from .runner import group
-from .shared import attempt, changed, database_of, empty_queue, expect, rows_of, run, wants
+from .shared import (CONVERSATIONS, NO_JOB, Peer, Server, attempt, changed, conversed, created, database_of, empty_queue,
+                     expect, expect_same, get, post, preload, reply, rows_of, run, wants, words_of)
 
 check = group("databases", "Lists the jobs of databases that the system's sqlite changed.", "computing")
 
@@ -182,3 +185,115 @@ def dumped(folder):
             found = rows_of(copy, "SELECT version, (SELECT count(*) FROM floors), (SELECT count(*) FROM jobs), "
                             "(SELECT sum(submitted) FROM times) FROM meta")
             expect(found == [wanted], f"its version, floors, jobs and times are {found}")
+
+
+# ---- files of older versions, and what was deleted from outside
+
+OLDER = {"version 2": SECOND, "version 1": FIRST}
+MOMENT = 1086  # of the last request of retry-goes-on
+
+
+def fed(file, name):
+    """A file whose server is told a transcript, each message at its moment."""
+    clock = file.with_name("moment")
+    clock.write_text("0")
+    with Server(file, *words_of(name), "--connections", "1", before=preload(["clocks"], MOMENT_FILE=clock)) as server:
+        with Peer(server.port) as peer:
+            for moment, message in messages_of((CONVERSATIONS / f"{name}.in").read_bytes()):
+                clock.write_text(str(moment))
+                peer.say(message)
+                peer.reply()
+        server.ends("behind a transcript")
+
+
+def is_sound(file):
+    expect_same(run("check", "--db", file, patience=60)[:3], (0, b"faxqd: sound\n", b""), "'check'")
+
+
+@contextlib.contextmanager
+def later(file, moment):
+    """A server on the file at a moment."""
+    setup = "--setup", CONVERSATIONS / "office.setup"
+    with Server(file, *setup, "--connections", "1", before=preload(["clocks"], FIXED_MOMENT=moment)) as server:
+        yield server
+
+
+def purge(number, before):
+    return post("/jobs/purge", number, f'{{"before":{before}}}', "adm")
+
+
+def purged(count):
+    return reply("200 OK", f'{{"purged":{count}}}')
+
+
+@check
+def ended(folder):
+    """Of a file of an older version the jobs that are over ended at the file's clock, and came at no known moment; a purge takes
+    them out when this clock is past."""
+    (folder / "made").mkdir()
+    fed(folder / "made/queue.db", "retry-goes-on")
+    for name, statements in OLDER.items():
+        with attempt(name):
+            file = changed(folder / "made", folder / name, statements)
+            expect(rows_of(file, "SELECT clock FROM meta") == [(MOMENT,)], "the transcript ends at another moment")
+            with attempt("the server"), later(file, MOMENT + 1) as server:
+                got = conversed(server.port, get("/jobs/1/times"), purge(1, MOMENT), purge(2, MOMENT + 1), get("/jobs/1"))
+                wanted = [reply("200 OK", f"submitted:0\nended:{MOMENT}\n", kind="text/plain"), purged(0), purged(1), NO_JOB]
+                expect_same(got, wanted, "the replies")
+            is_sound(file)
+            found = [rows_of(file, f"SELECT count(*) FROM {table}") for table in ("jobs", "grants", "times")]
+            expect(found == 3 * [[(0,)]], f"it has {found} jobs, grants and times")
+            file = changed(folder / "made", folder / f"{name} checked", statements)
+            is_sound(file)
+            found = rows_of(file, "SELECT version, job, submitted, ended FROM meta, times")
+            expect_same(found, [(3, 1, 0, MOMENT)], "the version and the times")
+
+
+# What a script deleted from the files of stopped servers, before servers purged them, and what people deleted by hand.
+OUTSIDE = {
+    "by a script": "DELETE FROM jobs WHERE phase IN (3, 4); "
+                   "DELETE FROM grants WHERE shut = 1 AND job NOT IN (SELECT job FROM jobs); DELETE FROM replies",
+    "by hand": "DELETE FROM grants WHERE job = 1; DELETE FROM jobs WHERE job = 1",
+    "by hand, without its grant": "DELETE FROM jobs WHERE job = 1",
+}
+# Of three jobs the first is done, the second has a grant, and the third waits.
+THREE = [
+    *(post("/jobs", number, f"number:555011{number}\ntotpages:1\n") for number in (1, 2, 3)),
+    post("/modems/ttyS0/next", 1, client="w0"), post("/grants/1/call", 2, '{"result":"connected"}', "w0"),
+    post("/grants/1/page", 3, '{"page":1}', "w0"),
+    post("/grants/1/outcome", 4, '{"dialed":true,"outcome":"done","pages":1}', "w0"), post("/modems/ttyS0/next", 5, client="w0"),
+]
+
+
+@check
+def purged_outside(folder):
+    """Files of older versions from which a job was deleted with its grant or without are taken, and are sound: that job isn't
+    there, the others are, and the numbers of jobs and grants go on."""
+    (folder / "made").mkdir()
+    with later(folder / "made/queue.db", 1000) as server:
+        got = conversed(server.port, *THREE)
+        expect(len(got) == len(THREE) and all(one.startswith(b"HTTP/1.1 20") for one in got), f"a queue can't be made: {got[-1:]}")
+        server.ends("behind three submissions")
+    for name, statements in OLDER.items():
+        for how, deletes in OUTSIDE.items():
+            with attempt(f"{name}, {how}"):
+                file = changed(folder / "made", folder / f"{name} {how}", f"{deletes}; {statements}")
+                expect(rows_of(file, "SELECT job FROM jobs ORDER BY job") == [(2,), (3,)], "another job was deleted")
+                is_sound(file)
+                found = rows_of(file, "SELECT 0, job, submitted, ended FROM times UNION ALL SELECT 1, id, job, shut FROM grants")
+                expect_same(sorted(found), [(0, 2, 0, 0), (0, 3, 0, 0), (1, 2, 2, 0)], "the times and the grants")
+                goes_on(file)
+
+
+def goes_on(file):
+    """Job 1 isn't there, the next job is 4 and the next grant 3, and job 2 leaves once it is done."""
+    with later(file, 1001) as server:
+        got = conversed(server.port, get("/jobs/1"), post("/jobs", 9, "number:5550119\ntotpages:1\n"),
+                        post("/modems/ttyS1/next", 1, client="w1"),
+                        post("/grants/2/outcome", 9, '{"dialed":false,"outcome":"fail","pages":0}', "w0"), purge(1, 1001))
+        grant = '{"from":1,"grant":3,"job":3,"number":"5550113","to":1}'
+        failed = '{"job":2,"state":8}'
+        expect_same(got, [NO_JOB, created(4), reply("200 OK", grant), reply("200 OK", failed), purged(0)], "the replies")
+    with later(file, 1002) as server:
+        expect_same(conversed(server.port, purge(2, 1002), get("/jobs/2")), [purged(1), NO_JOB], "the replies to a purge")
+    is_sound(file)

@@ -9,8 +9,8 @@ import time
 
 from .faxq import tiff
 from .runner import group
-from .shared import (CLOSE, EXAMPLES, MANY, Peer, Server, TOP, answer_to, attempt, expect, expect_same, get, post, rows_of, said,
-                     say, submission, wants, within)
+from .shared import (CLOSE, EXAMPLES, MANY, Peer, Server, TOP, answer_to, attempt, database_of, expect, expect_same, get, post,
+                     rows_of, said, say, submission, wants, within)
 from .unit import NOBODY, as_user, reachable
 
 check = group("documents", "Runs the commands of the documents.", "waiting")
@@ -165,6 +165,29 @@ def restored(folder):
         server.start()
         expect(jobs() == 1, f"of a backup with one job there are {jobs()}")
         expect(answer_to(server.port, submission(3, fields=CLOSE)) == (201, b'{"job":2}'), "a fax isn't accepted after a restore")
+
+
+@check
+def purge(folder):
+    """The commands of OPERATIONS.md that purge once delete the jobs that are older, while the server runs."""
+    wants("curl", "flock")
+    commands = [line for line in code(section_of(text_of("OPERATIONS.md"), "Purge")) if ADDRESS in line]
+    expect([command.split()[0] for command in commands] == ["examples/purge.sh", "faxq"], f"the commands are {commands}")
+    with Server(folder / "queue.db", *MANY) as server:
+        for number in 1, 2, 3:
+            answer_to(server.port, submission(number, fields=CLOSE))
+        for number, job in (4, 1), (5, 2):
+            answer_to(server.port, post(f"/jobs/{job}/kill", number, fields=CLOSE))
+        settings = {"JOURNAL": str(folder / "journal"), "FAXQ_FOLDER": str(folder / "faxq"), "no_proxy": "*",
+                    "PATH": f"{EXAMPLES}:{os.environ['PATH']}"}
+        for job, command in zip((1, 2), commands):
+            server.kill()
+            with database_of(folder / "queue.db") as database:
+                database.execute(f"UPDATE times SET submitted = 1, ended = ended - {31 * 86400} WHERE job = {job}")
+            server.start()
+            shown = shell(command.replace(ADDRESS, f"127.0.0.1:{server.port}"), TOP, **settings)
+            expect(shown == "1 jobs purged", f"{command} says {shown}")
+            expect(b"no-job" in answer_to(server.port, get(f"/jobs/{job}", CLOSE))[1], f"job {job} is still there")
 
 
 # ---- faxes by efax

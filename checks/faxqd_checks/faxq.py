@@ -1,7 +1,7 @@
 """`examples/faxq` against `serve`: over examples/bad-line.py each command is done once; killed before it is answered it goes
 on, and makes one job; replies that aren't the queue's own say nothing of a request, and those that have to be corrected are reported
-at once; `why` says why a job isn't sent; `again` hands in the pages that weren't confirmed; `modems` prints who holds what; and
-a client that was retired gets nothing accepted."""
+at once; `why` says why a job isn't sent; `again` hands in the pages that weren't confirmed; `modems` prints who holds what;
+a client that was retired gets nothing accepted; and `purge` asks until nothing is left that is over."""
 import json
 import os
 import pathlib
@@ -16,8 +16,8 @@ import time
 from .bad_line import line_to
 from .proxy import Answers, Proxy, number_of, reply
 from .runner import group
-from .shared import (CLOSE, EXAMPLES, Server, Wrong, answer_to, attempt, expect, free_port, get, is_whole, option, post,
-                     rows_of_copy, run, wants)
+from .shared import (CLOSE, EXAMPLES, Server, Wrong, answer_to, attempt, database_of, expect, expect_same, free_port, get, is_whole,
+                     option, post, preload, rows_of_copy, run, wants)
 
 check = group("faxq", "Has examples/faxq do each command once over a bad line and through stops, say why a job isn't sent, "
               "and take no answer but the queue's own.", "waiting")
@@ -640,3 +640,104 @@ def retired_later(folder):
             expect(len(desk.left()) == 1, f"{desk.left()} is kept")
             desk.does("client shop is retired", peer.url, "retire", "shop")
             expect(len(set(peer.seen)) == 1 and not desk.left(), f"it sends {peer.seen}, and {desk.left()} is left")
+
+
+# ---- purges
+
+PURGE = "purge", "--days", "30"
+
+
+def over(folder, url, desk, port):
+    """Three jobs, of which two were over long ago."""
+    with serving(folder, port):
+        for _ in range(3):
+            desk.says(url, *FAX)
+        for job in 1, 3:
+            desk.does(f"job {job} is failed", url, "kill", job)
+    with database_of(folder / "queue.db") as database:
+        database.execute(f"UPDATE times SET submitted = 1, ended = ended - {40 * 86400} WHERE ended > 0")
+
+
+@check
+def purged(folder):
+    """Over the bad line `purge` deletes what was over so long ago, and nothing else; each of its requests is another one, and is
+    accepted once."""
+    port, desk = free_port(), Desk(folder)
+    over(folder, f"http://127.0.0.1:{port}", desk, port)
+    with serving(folder, port), line_to(port, 5, 0.3) as (line, _):
+        url = f"http://127.0.0.1:{line}"
+        desk.does("0 jobs purged", url, "purge", "--days", "60")
+        desk.does("2 jobs purged", url, *PURGE)
+        desk.does("0 jobs purged", url, *PURGE)
+        desk.fails("no-job", 1, url, "status", 3)
+        time.sleep(0.4)  # late ones come
+    expect(rows(folder, "SELECT job FROM jobs") == [(2,)], "other jobs are left")
+    found = rows(folder, "SELECT CAST(body AS TEXT) FROM replies ORDER BY rowid DESC LIMIT 4")
+    expect_same([body for body, in reversed(found)], [f'{{"purged":{count}}}' for count in (0, 2, 0, 0)], "the last kept replies")
+    expect(not desk.left(), f"{desk.left()} is left")
+
+
+@check
+def purged_later(folder):
+    """Stopped before it was answered, the same words go on with the request that was sent, count what it deletes, and then ask with
+    a new moment; `left` sends that request alone; and it stands behind no submission that a proxy lets nobody send."""
+    port, desk = free_port(), Desk(folder)
+    url = f"http://127.0.0.1:{port}"
+    over(folder, url, desk, port)
+    data = desk.killed(port, *PURGE)
+    number, = desk.left()
+    before = json.loads(data.rpartition(b"\r\n\r\n")[2])["before"]
+    expect(number == number_of(data) and 0 <= time.time() - 30 * 86400 - before < 60, f"it sends {data}")
+    time.sleep(1.1)  # `now` is another moment
+    with serving(folder, port), Proxy(port) as proxy:
+        (desk.folder / "waiting" / number).write_text((desk.folder / "waiting" / number).read_text().replace(url, proxy.url))
+        desk.does("2 jobs purged", proxy.url, *PURGE)
+        bodies = [json.loads(one.rpartition(b"\r\n\r\n")[2])["before"] for one in proxy.seen]
+        expect(proxy.seen[0].rpartition(b"Fax-Number")[2] == data.rpartition(b"Fax-Number")[2], f"it goes on with {proxy.seen[0]}")
+        expect(len(bodies) == 2 and bodies[1] > before == bodies[0], f"it asks for what was over before {bodies}")
+    desk.killed(port, *PURGE)
+    with serving(folder, port):
+        desk.does('purge --days 30: {"purged": 0}', url, "left")
+        desk.does("job 2 is failed", url, "kill", 2)
+    before = json.loads(desk.killed(port, *PURGE).rpartition(b"\r\n\r\n")[2])["before"]
+    with database_of(folder / "queue.db") as database:
+        database.execute(f"UPDATE times SET submitted = 1, ended = {before}")
+    time.sleep(1.1)
+    with serving(folder, port):
+        desk.does("1 jobs purged", url, *PURGE)  # which the request that was left doesn't delete
+    with serving(folder, port), Proxy(port, lambda data, hand_on: reply(403, "<html>", "text/html") if b" /jobs HTTP" in data
+                                      else hand_on()) as proxy:
+        desk.fails("password", 3, proxy.url, *FAX)
+        status, out, err = desk.says(proxy.url, *PURGE)
+        expect((status, out) == (0, "0 jobs purged\n") and "left from before: submit" in err, f"{status} {out!r} {err!r}")
+    expect(len(desk.left()) == 1, f"{desk.left()} is left")
+
+
+@check
+def purge_answers(folder):
+    """It adds up what each request deletes, and believes no answer but the queue's; where the queue refuses it says why, and keeps
+    nothing; and it wants a whole number of days, at least one."""
+    done = reply(200, '{"purged":0}')
+    for number, answer in enumerate((
+            *(reply(200, body) for body in ("{}", '{"purged":-1}', '{"purged":"0"}', '{"purged":true}', '{"job":1,"state":8}')),
+            reply(201, '{"purged":0}'), reply(200, '{"purged":0}', "text/plain"), reply(200, "<html>", "text/html"))):
+        desk = Desk(folder, f"desk{number}")
+        with attempt(answer), Answers(answer, done) as peer:
+            desk.fails("isn't a fax queue", 3, peer.url, *PURGE)
+            expect(len(desk.left()) == 1, f"{desk.left()} is kept")
+    desk = Desk(folder)
+    parts = [reply(200, f'{{"purged":{count}}}') for count in (1000, 1000, 500)]
+    with attempt("many jobs"), Answers(*parts, *NOTHING, done) as peer:
+        desk.does("2500 jobs purged", peer.url, *PURGE)
+        numbers = [number_of(data) for data in peer.seen]
+        expect(len(set(numbers)) == 4 and len(numbers) == 4 + len(NOTHING), f"it sends the numbers {numbers}")
+        expect(all(data == peer.seen[numbers.index(number)] for number, data in zip(numbers, peer.seen)), "a repeat isn't the same")
+    with attempt("a refusal"), Server(folder / "queue.db", before=preload(["clocks"], FIXED_MOMENT=1000)) as server:
+        desk.fails("refused: purge-high: this machine's clock is ahead", 1, f"http://127.0.0.1:{server.port}", *PURGE)
+        desk.does("0 jobs purged", f"http://127.0.0.1:{server.port}", "purge", "--days", "99999")
+    for days in "0", "030", "-1", "1.5", "x", "", "100000":
+        with attempt(days), Answers(done) as peer:
+            desk.fails("whole number of days|expected one argument", 2, peer.url, "purge", "--days", days)
+            expect(not peer.seen, f"it sends {peer.seen}")
+    desk.fails("--days", 2, peer.url, "purge")
+    expect(not desk.left(), f"{desk.left()} is left")

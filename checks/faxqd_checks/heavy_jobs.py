@@ -2,6 +2,7 @@
 that has room, else in the folder of temporary files. They are filled with copies of the rows of a job that the program took. A
 start has as much memory as it wants, since the engine reads each table whole to check it."""
 import contextlib
+import json
 import pathlib
 import re
 import resource
@@ -9,7 +10,7 @@ import shutil
 import time
 
 from .runner import group
-from .shared import Peer, SETUP, Server, attempt, database_of, expect, get, new_folder, post, say, settle
+from .shared import Peer, SETUP, Server, attempt, database_of, expect, expect_same, get, new_folder, post, run, say, settle
 
 check = group("heavy-jobs", "Has thousands of heavy jobs wait, and tens of thousands for a busy number, and measures what a "
               "request costs then.")
@@ -30,6 +31,11 @@ GIVEN_UP = 4 << 20  # bytes more than before
 UNREAD = 24  # peers that ask for a listing and don't read it
 LONG = 100_000  # jobs of their listings
 ROOM = 64_000_000  # bytes that replies have which aren't read whole, beside the last one
+STORED = 100_000  # jobs of a file that is purged
+LEFT = 1_000  # jobs that one purge takes out at most
+PURGES = 3
+PURGED = 0.06  # seconds of a processor
+PURGE_ROOM = 4 << 20  # bytes more than before
 EXTRA = "a:\n" * 21_800  # extra lines, as many as a body has room for
 
 
@@ -74,14 +80,15 @@ class Queue(Server):
 
 
 def copy_job(folder, job, jobs):
-    """Makes this last job so many, but for the times, which no request of these checks reads."""
+    """Makes this last job so many, with its times."""
     with database_of(folder / "queue.db") as database:
         names = ", ".join(f'"{column[1]}"' for column in database.execute("PRAGMA table_info (jobs)"))
         values = names.replace('"job"', "n")
         last = job + jobs - 1
         database.execute("BEGIN")
-        database.execute(f"WITH RECURSIVE more (n) AS (SELECT {job + 1} UNION ALL SELECT n + 1 FROM more WHERE n < {last}) "
-                         f"INSERT INTO jobs ({names}) SELECT {values} FROM more, jobs WHERE job = {job}")
+        more = f"WITH RECURSIVE more (n) AS (SELECT {job + 1} UNION ALL SELECT n + 1 FROM more WHERE n < {last}) "
+        database.execute(f"{more}INSERT INTO jobs ({names}) SELECT {values} FROM more, jobs WHERE job = {job}")
+        database.execute(f"{more}INSERT INTO times SELECT n, submitted, ended FROM more, times WHERE job = {job}")
         database.execute("UPDATE meta SET next_job = ?", (last + 1,))
         database.execute("COMMIT")
 
@@ -247,6 +254,77 @@ def listed(_):
     expect(numbers == list(range(1, PLAIN + 1)), f"the listing has {len(numbers)} jobs, from {numbers[:3]} to {numbers[-3:]}")
     expect(taken <= LONGEST, f"a listing of {PLAIN:,} jobs takes {taken:.2f} s")
     expect(more < LISTED, f"a listing of {PLAIN:,} jobs takes {more >> 10} kB")
+
+
+def send_one(server, number):
+    """Submits a job that goes first, and has it sent."""
+    job = json.loads(server.ask("a submission", post("/jobs", number, "number:5550111\ntotpages:1\npriority:0\n"), 201)[0])["job"]
+    body, _ = server.ask("next", post("/modems/ttyS0/next", 1, client="ttyS0"), 200)
+    expect(json.loads(body)["job"] == job, f"next is answered {body!r}")
+    for place, (what, said) in enumerate((("call", '{"result":"connected"}'), ("page", '{"page":1}'),
+                                          ("outcome", '{"dialed":true,"outcome":"done","pages":1}')), 2):
+        server.ask(f"a {what}", post(f"/grants/1/{what}", place, said, "ttyS0"), 200)
+    return job
+
+
+def copy_grants(folder, first, jobs):
+    """Gives copies of grant 1 to these jobs, of which the first has it, and a second one to each other job; they ended some time
+    before."""
+    with database_of(folder / "queue.db") as database:
+        names = [f'"{column[1]}"' for column in database.execute("PRAGMA table_info (grants)")]
+        expect(names[:2] == ['"id"', '"job"'], f"grants have {names}")
+        database.execute("BEGIN")
+        for start, step in ((first + 1, 1), (first, 2)):
+            database.execute(
+                f"WITH RECURSIVE more (n) AS "
+                f"(SELECT {start} UNION ALL SELECT n + {step} FROM more WHERE n < {first + jobs - step}) "
+                f"INSERT INTO grants SELECT (SELECT max(id) FROM grants) + 1 + (n - {start}) / {step}, n, {', '.join(names[2:])} "
+                "FROM more, grants WHERE id = 1")
+        database.execute("UPDATE meta SET next_grant = (SELECT max(id) + 1 FROM grants)")
+        database.execute("UPDATE times SET submitted = submitted - 1000, ended = ended - 1000 WHERE ended > 0")
+        database.execute("COMMIT")
+
+
+def fill_over(folder, is_first):
+    """Makes the file: copies of a job that was sent, with grants, and of a job that waits, in front of them or after them."""
+    over = PURGES * LEFT
+    with Queue(folder) as server:
+        if is_first:
+            send_one(server, 1)
+        else:
+            server.ask("a submission", post("/jobs", 2, "number:5550222\ntotpages:1\n"), 201)
+    copy_job(folder, 1, over if is_first else STORED - over)
+    with Queue(folder) as server:
+        if is_first:
+            server.ask("a submission", post("/jobs", 2, "number:5550222\ntotpages:1\n"), 201)
+        else:
+            send_one(server, 1)
+    copy_job(folder, over + 1 if is_first else STORED - over + 1, STORED - over if is_first else over)
+    copy_grants(folder, 1 if is_first else STORED - over + 1, over)
+
+
+@check
+def purged(_):
+    """The best of three purges that take out 1,000 jobs each, with a grant or two, of a file with 100,000 jobs takes less than
+    60 ms of a processor, wherever the jobs that wait stand; one that finds nothing reads `times` in 0.25 s; they take 4 MB more
+    at most."""
+    for how, is_first in ("in front of those that wait", True), ("behind them", False):
+        with attempt(f"{LEFT:,} jobs {how}"), room() as folder:
+            fill_over(folder, is_first)
+            expect_same(run("check", "--db", folder / "queue.db")[:2], (0, b"faxqd: sound\n"), "'check' of the file")
+            taken, before = [], int(time.time())
+            with Queue(folder, DATA) as server:
+                rest = server.most()
+                for number in range(1, PURGES + 2):
+                    used = server.processor()
+                    body, _ = server.ask("a purge", post("/jobs/purge", number, f'{{"before":{before}}}', "adm"), 200)
+                    taken.append(server.processor() - used)
+                    expect(json.loads(body) == {"purged": LEFT if number <= PURGES else 0}, f"purge {number} is answered {body!r}")
+                more = server.most() - rest
+            say(f"{how} in {min(taken[:PURGES]):.3f} s, nothing in {taken[PURGES]:.3f} s, with {more >> 10} kB")
+            expect(min(taken[:PURGES]) < PURGED, f"purges of {LEFT:,} jobs take {[round(each, 3) for each in taken[:PURGES]]} s")
+            expect(taken[PURGES] <= PASSED, f"a purge that finds nothing takes {taken[PURGES]:.3f} s")
+            expect(more < PURGE_ROOM, f"purges take {more >> 10} kB")
 
 
 @check

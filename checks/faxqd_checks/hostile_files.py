@@ -141,7 +141,8 @@ ASKED = {  # of each file, in this order
     "a modem down": post("/modems/ttyS1/next", 9, client="w1"),
     "a page": post("/grants/1/page", 10, '{"page":2}', "w0"),
     "a modem ready": post("/modems/ttyS1/ready", 10, client="w1"),
-    "a submission": post("/jobs", 9, "number:5550114\ntotpages:1\ntts:700\n"), "a kill": post("/jobs/3/kill", 10)}
+    "a submission": post("/jobs", 9, "number:5550114\ntotpages:1\ntts:700\n"), "a kill": post("/jobs/3/kill", 10),
+    "a purge": post("/jobs/purge", 1, '{"before":1}', "adm")}
 Answers = collections.namedtuple("Answers", "got err")
 PAGES = 2200  # so many pages of its file a server may have in memory
 PLACES = 6000  # and so many kilobytes for the connections that may come
@@ -261,7 +262,7 @@ def files():
     try_all(tasks)
     sound = queue_file()
     wanted = asked_of(copied(sound)).got
-    expect(sum(answer.startswith(b"HTTP/1.1 20") for answer in wanted.values()) == 11, f"a sound file: {wanted!r}")
+    expect(sum(answer.startswith(b"HTTP/1.1 20") for answer in wanted.values()) == 12, f"a sound file: {wanted!r}")
     try_all([*schemas(sound, wanted), *damages(sound.read_bytes(), wanted)])
 
 

@@ -11,7 +11,7 @@ from .shared import (CONVERSATIONS, NotServing, Peer, TOP, UNAVAILABLE, expect, 
 # The messages of `retry-goes-on` begin with those of `submit`, `first-grant`, `page-before-call` and
 # `outcome-before-page`, so these aren't tried by themselves.
 CONVERSED = ("retry-goes-on", "time-of-day", "destination-rules", "alter-and-suspend", "alter-to-the-limit",
-             "repeat-of-a-submission", "modem-down", "listing", "modems")
+             "repeat-of-a-submission", "modem-down", "listing", "modems", "purge-at-a-kill-time", "purge-and-numbers")
 NO_MEMORY = (1, b"", b"faxqd: no memory\n")
 NOT_STARTED = (b"faxqd: no memory\n", b"faxqd: database\n", b"faxqd: cannot listen\n")
 FILES = (  # what is read at a start: some at fault, behind lines that want memory

@@ -41,6 +41,7 @@ def requests():
     for place, (what, statuses) in enumerate(ON_JOBS.items(), 1):
         yield from ((f"{what} {job}", status, post(f"/jobs/{job}/{what}", 10 * place + job, "priority:9\n"))
                     for job, status in zip(JOBS, statuses))
+    yield "a purge", 200, post("/jobs/purge", 1, '{"before":1}', "adm")
     for grant, statuses in REPORTED.items():
         yield from ((f"{what} on grant {grant}", status, post(f"/grants/{grant}/{what}", 10 * grant + place, body, "w3"))
                     for place, ((what, body), status) in enumerate(zip(REPORTS.items(), statuses)))

@@ -122,7 +122,7 @@ HELD = (r" grant [1-9]\d{0,8} job [1-9]\d{0,5} number \+?[0-9*#]{1,32} pages [1-
 MODEMS = re.compile(rf"([A-Za-z0-9._-]{{1,32}}:((up|down)({HELD})?|gone{HELD})\n)*", re.ASCII)
 TIMES = re.compile(r"submitted:\d{1,10}\nended:\d{1,10}\n", re.ASCII)
 ACCEPTED = ({"job"}, {"job", "state"}, {"grant"}, {"from", "grant", "job", "number", "to"}, {"stop"}, {"npages",
-    "stop"}, {"down"}, {"floor"})
+    "stop"}, {"down"}, {"floor"}, {"purged"})
 Reply = collections.namedtuple("Reply", "status number body last")
 
 

@@ -110,7 +110,7 @@ def faxq_page(folder):
 
 def is_told(part, name, options):
     """This part of a manual has just these options, in its synopsis and as items."""
-    shown = {f"-{one}" for one in re.findall(r"(?m)^\.Op Fl (\S+)", part)}
+    shown = {f"-{one}" for one in re.findall(r"(?m)^\.(?:Op )?Fl (\S+)", part)}
     expect(shown == options, f"{name} has the options {sorted(options)}, and the manual shows {sorted(shown)}")
     for option in options:
         expect(re.search(rf"(?m)^\.It Fl {option[1:]}\b", part), f"the manual doesn't say what {name} {option} is")

@@ -15,6 +15,7 @@ from .faxq import tiff
 from .runner import group
 from .shared import (CLOSE, EXAMPLES, MANY, Server, TOP, answer_to, attempt, expect, expect_same, get, post, reply_bytes,
                      run as run_program, said, wants, within)
+from .unit import service_of
 
 look = group("packaged", "Looks at what is in the Debian package, and how its worker's unit ends.", "waiting")
 check = group("package", "Builds the Debian package, and tries it in a root of Debian's packages.", by_hand=True)
@@ -104,9 +105,26 @@ def units(folder):
     drop_in = root / "etc/systemd/system/faxqd-worker@ttyS1.service.d/override.conf"
     drop_in.parent.mkdir(parents=True)
     drop_in.write_text("\n".join(shown))
-    for name in "faxqd.service", "faxqd-worker@ttyS0.service", "faxqd-worker@ttyS1.service":
+    workers = "faxqd-worker@ttyS0.service", "faxqd-worker@ttyS1.service"
+    for name in "faxqd.service", *workers, "faxqd-purge.service", "faxqd-purge.timer":
         ran = run("systemd-analyze", "verify", "--man=no", f"--root={root}", name)
         expect(ran.returncode == 0 and not ran.stderr, f"of {name} it says {ran.stderr}")
+
+
+@look
+def timer(folder):
+    """The timer of the purge is installed and isn't enabled; its unit's script is there, and OPERATIONS states its days."""
+    root = extracted(folder)
+    unit = service_of((root / "lib/systemd/system/faxqd-purge.service").read_text())
+    script, *_ = unit["ExecStart"][0].split()
+    expect(os.access(root / script.lstrip("/"), os.X_OK), f"the package has no {script}")
+    enabled = [file for file in root.glob("*/systemd/system/*.wants/*") if "purge" in file.name]
+    scripts = "".join((root / f"DEBIAN/{name}").read_text() for name in ("preinst", "postinst"))
+    expect(not enabled and "purge.timer" not in scripts, "the package enables the timer")
+    settings = dict(part.split("=", 1) for line in unit["Environment"] for part in line.split())
+    text = (root / "usr/share/doc/faxqd/OPERATIONS.md").read_text()
+    expect("systemctl enable --now faxqd-purge.timer" in text, "OPERATIONS doesn't enable the timer")
+    expect(f"{settings['DAYS']} days" in text, f"OPERATIONS doesn't state {settings['DAYS']} days")
 
 
 @look
@@ -322,7 +340,7 @@ def is_upgraded(root, package):
     """What the office changed stays, and so does the queue; a typo is told before the service starts."""
     setup = root.path("/etc/faxqd/office.setup")
     setup.write_text(setup.read_text() + "Modem: ttyS2\n")
-    done("systemctl", f"--root={root.place}", "enable", "faxqd-worker@ttyS0")
+    done("systemctl", f"--root={root.place}", "enable", "faxqd-worker@ttyS0", "faxqd-purge.timer")
     root.install(package)
     expect(root.path("/etc/faxqd/modem").exists(), "the office's own program is gone")
     expect("Modem: ttyS2" in setup.read_text(), "the changed setup is gone")
@@ -350,7 +368,7 @@ def is_removed(root, package):
         expect(root.asks("submit", "5550113", "--pages", "1") == "3\n", "the queue isn't the one from before")
     root.path("/etc/faxqd/modem").unlink()
     root.does("dpkg", "--purge", "faxqd")
-    for name in "/var/lib/faxqd", "/etc/faxqd", "/usr/lib/faxqd", "/usr/share/doc/faxqd":
+    for name in "/var/lib/faxqd", "/etc/faxqd", "/usr/lib/faxqd", "/usr/share/doc/faxqd", "/lib/systemd/system/faxqd-purge.timer":
         expect(not root.path(name).exists(), f"{name} is there behind a purge")
 
 

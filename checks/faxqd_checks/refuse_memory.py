@@ -106,6 +106,20 @@ FLOORS = [
     ("desk", 6, 1000, "/numbers/floor", '{"upto":2}'),
     (1000, "/jobs/1"),
 ]
+PURGES = [
+    ("desk", 1, 1000, "/jobs", "number:5550111", "totpages:1", "killtime:1500"),
+    ("old", 1, 1000, "/imports", *OLD[:-2], "state:8"),
+    ("w0", 1, 1000, "/modems/ttyS0/next"),
+    ("w0", 2, 1000, "/grants/1/call", '{"result":"busy"}'),
+    ("w0", 3, 1000, "/grants/1/outcome", '{"dialed":true,"outcome":"fail","pages":0}'),
+    ("desk", 2, 1000, "/jobs", "number:5550113", "totpages:1", "killtime:1500"),
+    ("adm", 1, 1500, "/jobs/purge", '{"before":1501}'),
+    ("adm", 1, 1500, "/jobs/purge", '{"before":1500}'),
+    ("adm", 2, 1500, "/jobs/purge", '{"before":1500}'),
+    ("adm", 1, 1500, "/jobs/purge", '{"before":1500}'),
+    (1600, "/jobs/1"),
+    (1600, "/jobs/3/times"),
+]
 
 
 def message(told):
@@ -229,3 +243,10 @@ def imports(folder):
 def floors(folder):
     """A reply that was given up isn't given again, and a floor that is too high or lower is refused, or its request is lost."""
     Sweep(folder, FLOORS, *SETUP).run(has_start=False)
+
+
+@check
+def purges(folder):
+    """Jobs that are over leave with their grant, one whose kill time has come stays, and a later purge finds what the one before
+    has left; or a request is lost."""
+    Sweep(folder, PURGES, *SETUP).run(has_start=False)

@@ -100,7 +100,8 @@ FAX = "number:5550111\ntotpages:1\n"
 @check
 def recipe(folder):
     """A request in the login's own name and a GET reach the queue, one in another's name is refused, as is one without the
-    password; /modems and /grants are the workers' alone, however the path is written; and / is the page."""
+    password; /modems and /grants are the workers' alone, and a purge is nobody's, however the path is written; and / is the
+    page."""
     wants("nginx", "openssl")
     (folder / "setup").write_text("Modem: ttyS0\n")
     proxy = Proxy(folder, EXAMPLES / "office.html", "desk", "other", "0", "ttyS0")
@@ -109,6 +110,7 @@ def recipe(folder):
             proxy.start(server.port)
             names(proxy)
             workers(proxy)
+            purges(proxy)
             page(proxy)
         finally:
             proxy.stop()
@@ -166,6 +168,17 @@ def workers(proxy):
     asked = Asked(proxy, "POST", "/modems/ttyS0/next", "ttyS0", "", fields=named("ttyS0", number=1))
     is_answered(asked, 200, True, "a worker's question")
     expect(b'"grant":1' in asked.body, f"a worker gets {asked.body!r}")
+
+
+def purges(proxy):
+    """Nobody purges by way of nginx, however the path is written."""
+    for user, path in (("desk", "/jobs/purge"), ("ttyS0", "/jobs/purge"), ("desk", "//jobs/purge"), ("desk", "/jobs/%70urge"),
+                       ("desk", "/jobs/./purge"), ("desk", "/jobs/x/../purge"), ("desk", "/jobs/purge?x")):
+        asked = Asked(proxy, "POST", path, user, '{"before":0}', fields=named(user, number=4))
+        is_answered(asked, 403, False, f"a purge of {user} by {path}")
+    for path in "/jobs/purge/", "/jobs/PURGE", "/jobs/purge%3fx", "/jobs/purge%2f":
+        asked = Asked(proxy, "POST", path, "desk", '{"before":0}', fields=named("desk", number=4))
+        expect(400 <= asked.status < 500, f"a purge by {path} is answered {asked.status}")
 
 
 def page(proxy):

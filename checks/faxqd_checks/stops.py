@@ -7,7 +7,7 @@ import sqlite3
 from .disk import (BROKEN_MODES, CONVERSATION, Disk, MODES, MORE_MODES, NAME, Office, Tools, difference, every, lay, rows, taken,
                    undisturbed)
 from .runner import group
-from .shared import Wrong, attempt, database_of, expect, fault, option, said, say, told
+from .shared import Wrong, attempt, database_of, expect, expect_same, fault, option, run, said, say, told
 
 check = group("stops", "Stops `serve` at each call of the disk that a request or a start makes; the files are then left as "
               "a power loss may leave them, and it starts on them.", "computing")
@@ -19,6 +19,27 @@ FIRST_VERSION = f"{INDEXES}; DROP TABLE times; DROP TABLE floors; UPDATE meta SE
 SECOND_VERSION = f"{INDEXES}; DROP TABLE times; UPDATE meta SET version = 2; {OLD_INDEXES}"
 # Behind the first of these it gives its replies up.
 FLOORS = [CONVERSATION[0], ("floor", "desk", 5, "/numbers/floor", '{"upto":3}', 200, '{"floor":3}')]
+# Two jobs that are over, of which the first has two grants, one that a modem has, one that waits, and a third that is over. A purge
+# of what was over before takes out three of these.
+SENT = '{"dialed":true,"outcome":"done","pages":1}'
+OVER = [
+    *CONVERSATION,
+    (None, "desk", 2, "/jobs", "number:5550111\ntotpages:1\n", 201, '{"job":2}'),
+    (None, "w0", 6, "/modems/ttyS0/next", "", 200, '{"from":1,"grant":2,"job":2,"number":"5550111","to":1}'),
+    (None, "w0", 7, "/grants/2/call", '{"result":"connected"}', 200, '{"stop":false}'),
+    (None, "w0", 8, "/grants/2/page", '{"page":1}', 200, '{"npages":1,"stop":false}'),
+    (None, "w0", 9, "/grants/2/outcome", SENT, 200, '{"job":2,"state":7}'),
+    (None, "desk", 3, "/jobs/1/kill", "", 200, '{"job":1,"state":8}'),
+    (None, "desk", 4, "/jobs", "number:5550112\ntotpages:1\n", 201, '{"job":3}'),
+    (None, "w0", 10, "/modems/ttyS0/next", "", 200, '{"from":1,"grant":3,"job":3,"number":"5550112","to":1}'),
+    (None, "desk", 5, "/jobs", "number:5550113\ntotpages:1\n", 201, '{"job":4}'),
+    (None, "desk", 6, "/jobs", "number:5550114\ntotpages:1\n", 201, '{"job":5}'),
+    (None, "desk", 7, "/jobs/5/kill", "", 200, '{"job":5,"state":8}'),
+]
+LONG_AGO = ("INSERT INTO grants VALUES (4, 1, 'ttyS1', 1, 3, 1, 0, 1); UPDATE meta SET next_grant = 5; "
+            "UPDATE times SET submitted = 900, ended = 900 WHERE ended > 0")
+PURGE = "purge", "adm", 1, "/jobs/purge", '{"before":1000}', 200, '{"purged":3}'
+BEFORE_PURGE = [(None, "desk", 8, "/jobs", "number:5550115\ntotpages:1\n", 201, '{"job":6}')]
 
 
 def filling(first, last):
@@ -201,6 +222,21 @@ def outcome(folder):
 def floor(folder):
     """Replies that are given up are all there or all gone, wherever the server was stopped."""
     request(folder, "floor")
+
+
+@check
+def purge(folder):
+    """The jobs of a purge have all left, with their times and grants, or none, wherever the server was stopped, and have left if
+    it was answered; either file is sound."""
+    tools = Tools(folder)
+    files = changed(tools, undisturbed(tools, {}, OVER), LONG_AGO)
+    for asked, jobs, grants in ([], 5, 4), ([PURGE], 2, 1):
+        left = lay(folder / "left", undisturbed(tools, files, asked))
+        found = rows(left)
+        counts = [len(found[name]) for name in ("jobs", "times", "grants")]
+        expect(counts == [jobs, jobs, grants], f"after {asked} there are {found}")
+        expect_same(run("check", "--db", left / NAME)[:2], (0, b"faxqd: sound\n"), f"'check' after {asked}")
+    swept(tools, [Sweep(tools, "purge, first", files, [], PURGE), Sweep(tools, "purge, later", files, BEFORE_PURGE, PURGE)])
 
 
 @check

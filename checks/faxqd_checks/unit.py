@@ -1,5 +1,6 @@
-"""The program under the limits of its unit, examples/faxqd.service. systemd's own lists of system calls become a seccomp filter
-by way of libseccomp, the library that systemd uses, and the filter is loaded before the program begins."""
+"""The program under the limits of its unit, examples/faxqd.service, and the purge under those of its own. systemd's own lists of
+system calls become a seccomp filter by way of libseccomp, the library that systemd uses, and the filter is loaded before the
+program begins."""
 import ctypes
 import errno
 import os
@@ -8,15 +9,17 @@ import re
 import shutil
 import signal
 import socket
+import string
 import subprocess
 import sys
 
 from .runner import group
-from .shared import (CLOSE, EXAMPLES, NotServing, NotTried, Peer, Server, Wrong, answer_to, created, expect, get, post,
+from .shared import (CLOSE, EXAMPLES, NotServing, NotTried, Peer, Server, TOP, Wrong, answer_to, created, expect, get, post,
                      said, wants)
 
-check = group("unit", "Runs the program under the limits that examples/faxqd.service sets.", "waiting")
+check = group("unit", "Runs the program and the purge under the limits that their units set.", "waiting")
 UNIT = EXAMPLES / "faxqd.service"
+PURGE = TOP / "packaging/faxqd-purge.service"
 FAXES = 60  # as large as they are here, they write more than the 1,000 pages after which SQLite checkpoints
 NOBODY = 65534
 KILL_PROCESS, ERROR, ALLOW = 0x80000000, 0x00050000, 0x7FFF0000  # actions of seccomp(2); an error adds its number
@@ -234,3 +237,36 @@ def limits(folder):
             peer.asks(fax(7), created(7), "the repeat of fax 7 after a restart")
         jobs = answer_to(server.port, get("/jobs", CLOSE))[1]
         expect(len(jobs.split(b"\n")) == FAXES + 2, f"after a restart the listing is {jobs!r}")
+
+
+@check
+def purge(folder):
+    """Under the limits of the purge's unit, without privileges, the command of that unit has its answer, and keeps its folder for
+    itself; what the unit has beside that is what the server's unit has."""
+    wants("systemd-analyze", "curl", "flock")
+    service, state = service_of(PURGE.read_text()), folder / "state"
+    filters = Filters(service)
+    forbids(filters)
+    of_server = service_of(UNIT.read_text())
+    names = [name for name in of_server if re.match("Protect|Private|RestrictA|RestrictN|IPAddress|Capability|NoNew", name)]
+    other = [name for name in names if service.get(name) != of_server[name]]
+    expect(len(names) > 10 and not other, f"of {names} the purge's unit has others: {other}")
+    folder.chmod(0o755)
+    script = shutil.copy(EXAMPLES / "purge.sh", folder)
+    state.mkdir(mode=0o700)
+    if os.getuid() == 0:
+        os.chown(state, NOBODY, NOBODY)
+    with Server(folder / "queue.db", "--connections", "9") as server:
+        settings = dict(part.split("=", 1) for line in service["Environment"] for part in line.split())
+        expect(settings["FAXQD"] == "http://127.0.0.1:4559", f"the unit asks {settings}")
+        place, = service["StateDirectory"]
+        expect(settings["JOURNAL"].startswith(f"/var/lib/{place}/"), f"the unit keeps its request in {settings}")
+        settings |= {"FAXQD": f"http://127.0.0.1:{server.port}", "JOURNAL": str(state / "request"), "PATH": os.environ["PATH"]}
+        command, = service["ExecStart"]
+        words = string.Template(command.replace("/usr/lib/faxqd/purge.sh", script)).substitute(settings).split()
+        expect(words[0] == script, f"the unit's command is {command}")
+        ran = subprocess.run(words, env=settings, stdin=subprocess.DEVNULL, capture_output=True, text=True, timeout=60, cwd="/",
+                             preexec_fn=filters.confine)
+        expect((ran.returncode, ran.stdout, ran.stderr) == (0, "0 jobs purged\n", ""), f"it ends with {ran}")
+    kept = {file.name: file.stat().st_mode & 0o777 for file in state.iterdir()}
+    expect(kept == {"request.lock": 0o600}, f"it keeps {kept}")

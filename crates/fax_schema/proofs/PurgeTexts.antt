@@ -18,7 +18,7 @@ use Rattle.fax_schema.proofs.UpdateLemmas.{program_of, gone_project}
 use Rattle.fax_schema.specs.Schema.{grants_tree, jobs_tree, times_tree}
 
 abbrev pub leaving_tests : List Term
-leaving_tests = equals (col 2 0) (col 1 0) ∷ op2 (Compare Lt Binary) (col 1 3) (col 0 0) ∷ op2 (Compare Gt Binary) (col 2 18) (lit (Int (pos 2))) ∷ []
+leaving_tests = equals (col 2 0) (col 1 0) ∷ op2 (Compare Lt Binary) (col 1 3) (col 0 0) ∷ op2 (Compare Gt Binary) (col 2 18) (lit (Int (pos 2))) ∷ op2 (Compare Lt Binary) (col 2 18) (lit (Int (pos 5))) ∷ []
 
 abbrev pub leaving_query : Query
 leaving_query = record (rows_by times_tree leaving_tests (col 1 0 ∷ []) ((col 1 0, ascending Binary) ∷ [])) { from = inner times_tree (inner jobs_tree end); limit = lit (Int (pos 1000)) }

@@ -108,7 +108,7 @@ pub const END_TIMES: &str = "UPDATE times SET ended = ?2 WHERE job = ?1";
 // ---- purging
 
 pub const SELECT_LEAVING: &str = "SELECT times.job FROM times JOIN jobs ON jobs.job = times.job \
-    WHERE times.ended < ?1 AND jobs.phase > 2 ORDER BY times.job LIMIT 1000";
+    WHERE times.ended < ?1 AND jobs.phase > 2 AND jobs.phase < 5 ORDER BY times.job LIMIT 1000";
 
 pub const DELETE_JOB: &str = "DELETE FROM jobs WHERE job = ?1";
 

@@ -97,8 +97,8 @@ flat_swap {X} {Y} t (x ∷ xs) ys =
 less_than : (a b : ℕ) → is_true (binary (Compare Lt Binary) (Int (pos a)) (Int (pos b))) ≡ nat_lt a b
 less_than a b = compared Lt (Int (pos a)) (Int (pos b)) refl refl ∙ ap is_lt (value_cmp-Int (pos a) (pos b)) ∙ grind (arith, nat_tests)
 
--- the phases past the third are those of jobs that are over
-over_phase : (p : Phase) → nat_lt 2 (phase_number p) ≡ has_ended p
+-- two phases are those of jobs that are over
+over_phase : (p : Phase) → (nat_lt 2 (phase_number p) && nat_lt (phase_number p) 5) ≡ has_ended p
 over_phase Held = refl
 over_phase Waiting = refl
 over_phase Granted = refl
@@ -121,7 +121,7 @@ module _ (before : ℕ) where
   env x j = leaving_params ∷ times_row x ∷ row_of j ∷ []
 
   passes_so : (x : Times) (j : Job) → list_all (holds (env x j)) leaving_tests ≡ goes x j
-  passes_so x j = ap₂ (λ a b. a && b) (is_number j.number x.job) (ap₂ (λ a b. a && b) (less_than x.ended before) (and-true _ ∙ more_than (phase_number j.phase) 2 ∙ over_phase j.phase))
+  passes_so x j = ap₂ (λ a b. a && b) (is_number j.number x.job) (ap₂ (λ a b. a && b) (less_than x.ended before) (ap₂ (λ a b. a && b) (more_than (phase_number j.phase) 2) (and-true _ ∙ less_than (phase_number j.phase) 5) ∙ over_phase j.phase))
 
   -- ---- the times of a job
 
