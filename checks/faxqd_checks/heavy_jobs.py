@@ -10,7 +10,8 @@ import shutil
 import time
 
 from .runner import group
-from .shared import Peer, SETUP, Server, attempt, database_of, expect, expect_same, get, new_folder, post, run, say, settle
+from .shared import (EXAMPLES, Peer, SETUP, Server, attempt, database_of, expect, expect_same, get, new_folder, post, run, say,
+                     settle)
 
 check = group("heavy-jobs", "Has thousands of heavy jobs wait, and tens of thousands for a busy number, and measures what a "
               "request costs then.")
@@ -48,9 +49,9 @@ def room():
 class Queue(Server):
     """The program on a file, with so much data from when it listens, and one connection to it."""
 
-    def __init__(self, folder, data=None, *words):
+    def __init__(self, folder, data=None, *words, **more):
         (folder / "setup").write_text(SETUP)
-        super().__init__(folder / "queue.db", "--setup", folder / "setup", *words)
+        super().__init__(folder / "queue.db", "--setup", folder / "setup", *words, **more)
         if data:
             resource.prlimit(self.process.pid, resource.RLIMIT_DATA, (data, data))
             # Resets the peak of the memory.
@@ -306,9 +307,9 @@ def fill_over(folder, is_first):
 @check
 def purged(_):
     """The best of three purges that take out 1,000 jobs each, with a grant or two, of a file with 100,000 jobs takes less than
-    60 ms of a processor, wherever the jobs that wait stand; one that finds nothing reads `times` in 0.25 s; they take 4 MB more
-    at most."""
-    for how, is_first in ("in front of those that wait", True), ("behind them", False):
+    60 ms of a processor if these have the lowest numbers. One that passes 97,000 jobs first, or finds nothing, takes 0.25 s at
+    most. They take 4 MB more at most."""
+    for how, is_first, most in ("in front of those that wait", True, PURGED), ("after them", False, PASSED):
         with attempt(f"{LEFT:,} jobs {how}"), room() as folder:
             fill_over(folder, is_first)
             expect_same(run("check", "--db", folder / "queue.db")[:2], (0, b"faxqd: sound\n"), "'check' of the file")
@@ -322,20 +323,22 @@ def purged(_):
                     expect(json.loads(body) == {"purged": LEFT if number <= PURGES else 0}, f"purge {number} is answered {body!r}")
                 more = server.most() - rest
             say(f"{how} in {min(taken[:PURGES]):.3f} s, nothing in {taken[PURGES]:.3f} s, with {more >> 10} kB")
-            expect(min(taken[:PURGES]) < PURGED, f"purges of {LEFT:,} jobs take {[round(each, 3) for each in taken[:PURGES]]} s")
+            expect(min(taken[:PURGES]) < most, f"purges of {LEFT:,} jobs take {[round(each, 3) for each in taken[:PURGES]]} s")
             expect(taken[PURGES] <= PASSED, f"a purge that finds nothing takes {taken[PURGES]:.3f} s")
             expect(more < PURGE_ROOM, f"purges take {more >> 10} kB")
 
 
 @check
 def unread(_):
-    """While 24 peers don't read their listings of 100,000 jobs, those that are begun take 64 MB and one listing more; the
-    others wait, every other request is answered, and the server is idle. Once the peers read, each gets its whole listing."""
+    """While 24 peers don't read their listings of 100,000 jobs, those that are begun take 64 MB and one listing more, in the
+    environment of the unit; the others wait, every other request is answered, and the server is idle. Once the peers read, each
+    gets its whole listing."""
+    environment = re.findall(r"(?m)^Environment=(.+)$", (EXAMPLES / "faxqd.service").read_text())
     with room() as folder, contextlib.ExitStack() as stack:
         with Queue(folder) as server:
             server.ask("a submission", post("/jobs", 1, "number:5550111\ntotpages:1\n"), 201)
         copy_job(folder, 1, LONG)
-        server = stack.enter_context(Queue(folder, None, "--timeout", "100"))
+        server = stack.enter_context(Queue(folder, None, "--timeout", "100", before=("env", *environment)))
         body, _ = server.ask("the listing", get("/jobs"), 200)
         rest = server.memory()
         peers = [stack.enter_context(Peer(server.port, 65536, 100)) for _ in range(UNREAD)]
