@@ -1,9 +1,8 @@
-"""examples/client.sh, import.sh and fax: against what isn't the queue's answer, with faxes and files left from before, and with a
+"""examples/client.sh and import.sh: against what isn't the queue's answer, with faxes and files left from before, and with a
 queue that lets nobody in."""
 import contextlib
 import os
 import re
-import ssl
 import subprocess
 import time
 
@@ -11,7 +10,7 @@ from .proxy import Proxy, Strange, number_of, path_of, reply
 from .runner import group
 from .shared import (CLOSE, EXAMPLES, MANY, Server, answer_to, attempt, expect, get, post, rows_of_copy, said, wants, within)
 
-check = group("clients", "Has examples/client.sh, import.sh and fax hand each fax in once, and say what became of it.", "scripts")
+check = group("clients", "Has examples/client.sh and import.sh hand each fax in once, and say what became of it.", "scripts")
 SHELLS = "dash", "bash"
 PATIENCE = 60
 OLD = "170000000000017", "170000000000018", "170000000000019"  # numbers of requests, before all that follow the clock
@@ -169,79 +168,3 @@ def broken_off(shell, place, proxy):
     count = len(proxy.seen)
     expect(brings("one", "two", "three")[0] == 0 and brings()[0] == 0, "once more it doesn't end well")
     expect(brings("other")[0] == 2 and len(proxy.seen) == count == 3, f"{proxy.seen[count:]} is sent")
-
-
-# What answers a question for the job, with what `fax --wait` has to say of it, on one line, and end with 3.
-ENDS = [
-    (reply(401, "<html>", "text/html"), "name and password"), (reply(404, "<html>", "text/html"), "isn't a fax queue"),
-    (reply(404, '{"no":8,"word":"no-job"}'), "has no job [0-9]"), (reply(200, "<html>", "text/html"), "isn't a fax queue"),
-    (reply(302, "", "text/html"), "isn't a fax queue"),
-]
-
-
-@check
-def waits(folder):
-    """`fax` prints its own job, though others were left, and `fax --wait` takes name and password from ~/.netrc, shows a status of
-    several lines, and ends with 3 where it is never let in."""
-    wants("curl", "flock", "gs", "tiffinfo", "tiff2pdf", "openssl")
-    (folder / "text.ps").write_text("%!PS\nshowpage\n")
-    (folder / ".netrc").write_text("machine 127.0.0.1 login desk password secret\n")
-    (folder / ".netrc").chmod(0o600)
-    login, strange = b"Authorization: Basic ZGVzazpzZWNyZXQ=\r\n", []
-
-    def instead(data, hand_on):
-        if data.startswith(b"GET"):
-            if strange:
-                return strange[0]
-            if login not in data:
-                return reply(401, "<html>", "text/html")
-            if len([one for one in proxy.seen if one.startswith(b"GET")]) < 3:
-                return b""
-        return hand_on()
-
-    def fax(*words, **more):
-        return ran([EXAMPLES / "fax", folder / "desk", "-d", "5550111", *words, folder / "text.ps"], proxy.url, HOME=str(folder), **more)
-
-    with queue(folder, instead) as (server, proxy):
-        (folder / "desk/waiting").mkdir(parents=True)
-        (folder / "desk/waiting" / OLD[0]).write_text(GOOD)
-        (folder / "desk/waiting" / OLD[1]).write_text(BAD)
-        with attempt("a fax with others left"):
-            status, out, err = fax()
-            expect((status, out) == (0, "2\n"), f"it ends with {status}, and says {out!r} and {err!r}")
-        with attempt("a job that fails"):
-            waiting = subprocess.Popen([EXAMPLES / "fax", folder / "desk", "-d", "5550111", "-w", folder / "text.ps"], text=True,
-                                       env={**os.environ, "HOME": str(folder), "FAXQD": proxy.url, "PAUSE": "0.1", "CLIENT": "desk",
-                                            "PROGRAM": str(said.program)}, stdout=subprocess.PIPE, stderr=subprocess.PIPE)
-            try:
-                within("job 3", lambda: answer_to(server.port, post("/jobs/3/kill", 2, "", "other", CLOSE))[0] == 200)
-                out, err = waiting.communicate(timeout=PATIENCE)
-            finally:
-                waiting.kill()
-            expect((waiting.returncode, out, err) == (1, "3\n", "fax: job 3 failed: Killed\n"), f"{waiting.returncode} {out!r} {err!r}")
-        for answer, wanted in ENDS:
-            with attempt(answer):
-                strange[:] = [answer]
-                status, out, err = fax("--wait")
-                expect(status == 3 and out.strip().isdigit() and re.fullmatch(f"fax: .*{wanted}.*\n", err),
-                       f"it ends with {status}, and says {out!r} and {err!r}")
-        with attempt("a status of several lines"):
-            text = answer_to(server.port, get("/jobs/3", CLOSE))[1].decode().replace("status:Killed", "status:a\\\nb\x85")
-            strange[:] = [reply(200, text, "text/plain")]
-            status, out, err = fax("--wait")
-            expect(status == 1 and err.endswith("failed: a / b?\n"), f"it ends with {status}, and says {out!r} and {err!r}")
-        strange.clear()
-        with attempt("a certificate that isn't known"):
-            certificate(folder, proxy, fax)
-
-
-def certificate(folder, proxy, fax):
-    """client.sh is set to trust a certificate, and `fax --wait` isn't."""
-    made = subprocess.run(["openssl", "req", "-x509", "-newkey", "ec", "-pkeyopt", "ec_paramgen_curve:P-256", "-nodes", "-keyout",
-                           folder / "key", "-out", folder / "pem", "-days", "2", "-subj", "/CN=127.0.0.1", "-addext",
-                           "subjectAltName=IP:127.0.0.1"], capture_output=True, text=True)
-    expect(made.returncode == 0, f"openssl says {made.stderr}")
-    proxy.tls = ssl.SSLContext(ssl.PROTOCOL_TLS_SERVER)
-    proxy.tls.load_cert_chain(folder / "pem", folder / "key")
-    status, out, err = fax("--wait", FAXQD=proxy.url.replace("http", "https"), CURL_CA_BUNDLE=str(folder / "pem"))
-    expect(status == 3 and "certificate of https://127.0.0.1" in err and err.count("\n") == 1, f"it ends with {status}: {out!r} {err!r}")

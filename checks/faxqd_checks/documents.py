@@ -7,10 +7,11 @@ import subprocess
 import threading
 import time
 
+from .desk import wants_all
 from .faxq import tiff
 from .runner import group
-from .shared import (CLOSE, EXAMPLES, MANY, Peer, Server, TOP, answer_to, attempt, database_of, expect, expect_same, get, post,
-                     rows_of, said, say, submission, wants, within)
+from .shared import (CLOSE, EXAMPLES, MANY, Peer, Server, TOP, answer_to, attempt, database_of, expect, expect_same, free_port,
+                     get, post, rows_of, said, say, submission, wants, within)
 from .unit import NOBODY, as_user, reachable
 
 check = group("documents", "Runs the commands of the documents.", "waiting")
@@ -238,6 +239,59 @@ def efax(folder):
                 expect(" failed" not in shown, shown)
                 return " is done: 2 of 2 pages confirmed" in shown
             within("the job is done", over, pause=0.2)
+        finally:
+            process.kill()
+            process.communicate()
+
+
+# ---- the desk and faxq as they are installed
+
+def installed(folder, heading):
+    """Runs the commands under a heading that install files, below a folder."""
+    for command in code(section_of(text_of("OPERATIONS.md"), heading)):
+        if command.startswith(("install ", "cp ")):
+            shell(re.sub(r"(?<=\s)/(usr|etc)/", rf"{folder}/\1/", command), TOP)
+
+
+@check
+def installed_faxq(folder):
+    """faxq works where OPERATIONS.md installs it."""
+    (folder / "usr/local/bin").mkdir(parents=True)
+    installed(folder, "Clients")
+    with Server(folder / "queue.db", *MANY) as server:
+        listed = shell(f"{folder}/usr/local/bin/faxq --server http://127.0.0.1:{server.port} status")
+        expect(listed.startswith("JID Pri S"), f"faxq says {listed!r}")
+
+
+@check
+def installed_desk(folder):
+    """The desk runs as OPERATIONS.md installs it, with the example of its settings, and takes the upload of a program."""
+    wants_all()
+    wants("curl")
+    (folder / "etc/systemd/system").mkdir(parents=True)
+    installed(folder, "The desk")
+    unit = (folder / "etc/systemd/system/faxqd-desk.service").read_text()
+    command, environment = (re.search(rf"(?m)^{name}=(.*)$", unit)[1] for name in ("ExecStart", "Environment"))
+    environment = dict(word.split("=", 1) for word in environment.replace("/usr/", f"{folder}/usr/").split())
+    settings, port = folder / "etc/faxqd/desk.toml", free_port()
+    with Server(folder / "queue.db", *MANY) as server:
+        text = settings.read_text()
+        for old, new in (("127.0.0.1:4560", f"127.0.0.1:{port}"), ("127.0.0.1:4559", f"127.0.0.1:{server.port}"),
+                         ("/var/lib/faxqd-desk", f"{folder}/desk")):
+            expect(text.count(old) == 1, f"the example of the settings hasn't {old}")
+            text = text.replace(old, new)
+        settings.write_text(text)
+        process = subprocess.Popen(shlex.split(command.replace(" /etc/", f" {folder}/etc/")), stdin=subprocess.DEVNULL,
+                                   stdout=subprocess.PIPE, env={**os.environ, **environment})
+        try:
+            expect(b"listening" in process.stdout.readline(), "the desk doesn't listen")
+            (folder / "report.pdf").write_bytes(b"%!PS\nshowpage\n")
+            upload = re.search(r"(?ms)^ +(curl -u anna .*?)\n\n", section_of(text_of("OPERATIONS.md"), "The desk"))[1]
+            for old, new in (("\\\n", " "), ("-u anna", "-s --noproxy '*' -H 'X-Remote-User: anna'"),
+                             ("https://fax.office.example", f"http://127.0.0.1:{port}")):
+                upload = upload.replace(old, new)
+            expect('"id":1' in shell(upload, folder), "the upload isn't fax 1")
+            within("its job", lambda: answer_to(server.port, get("/jobs/1", CLOSE))[0] == 200)
         finally:
             process.kill()
             process.communicate()

@@ -1,18 +1,17 @@
-"""Real faxes: a PDF goes through examples/fax, the queue, examples/efax-worker, efax and a telephone line in memory to another
-efax. Each third reply of the queue is lost on its way. Each part has a queue, a worker and a line of its own."""
+"""Real faxes: a document goes through the queue, examples/efax-worker, efax and a telephone line in memory to another efax. Each third reply of the queue is lost on its way. Each part has a queue, a worker and a line of its own."""
 import functools
 import os
 import random
 import re
 import shutil
 import signal
-import subprocess
 import threading
 import time
 
-from .fax_line import Office, TEXT, Tools, render
+from .desk import Desk, MailServer, wants_all
+from .fax_line import Office, Tools, render
 from .runner import group
-from .shared import Wrong, expect, fault, new_folder, said, say, told, within
+from .shared import Wrong, expect, fault, new_folder, say, told, within
 
 check = group("fax", "Sends real faxes over spandsp's soft modems and a line in memory; each page comes once and as it was "
               "sent.", "fax")
@@ -80,7 +79,7 @@ def often_killed(office):
         office.kill(office.worker)
         office.start_worker()
     office.has_received([1, 2, 3])
-    office.ends_with(0, "1\n", "")
+    office.ends_with(0, "is done")
 
 
 @part
@@ -131,7 +130,7 @@ def killed(office):
     expect(job["npages"] == "1" and job["status"] == "Killed", f"the killed job is {job}")
     office.has_received([1])
     expect(office.reasons() == ["stopped"], f"the reasons are {office.reasons()}")
-    office.ends_with(1, "1\n", "fax: job 1 failed: Killed\n")
+    office.ends_with(1, "is failed (Killed)")
 
 
 @part
@@ -210,29 +209,15 @@ def places_of_documents(office):
 
 
 @part
-def handed_in(office):
-    """examples/fax makes faxes of a PDF, PostScript and TIFF, by its letters."""
-    pdf, text, tiff = (office.folder / name for name in ("a report.pdf", "text.ps", "colour.tif"))
-    shutil.copy(office.tools.document, pdf)
-    text.write_text(TEXT)
-    render(pdf, tiff, "-sDEVICE=tiff24nc", "-r50")
-    letters = "-d", "+1 555-0111", "-i", "two words", "-P", "5", "-t", "2", "-T", "4", "-a", "now + 2 hours"
-    lines = {"number": "+15550111", "jobtag": "two words", "priority": "5", "maxtries": "2", "maxdials": "4",
-             "totpages": "3", "state": "2"}
-    for number, (words, file, size) in enumerate([((), pdf, (1728, 2292, 196)), (("-l",), text, (1728, 1146, 98)),
-                                                  (("-m", "-s", "letter"), tiff, (1728, 2156, 196))], 1):
-        office.submit(*letters, *words, file)
-        office.ends_with(0, f"{number}\n", "")
-        job = office.job(number)
-        expect({tag: job.get(tag) for tag in lines} == lines, f"{file.name} becomes job {job}")
-        looked = subprocess.run(["tiffinfo", job["tiff"].split("::")[1]], capture_output=True, text=True).stdout
-        found = re.findall(r"Image Width: (\d+) Image Length: (\d+)\n +Resolution: 204, (\d+) pixels", looked)
-        expect([tuple(map(int, page)) for page in found] == 3 * [size], f"of {file.name} the pages are {found}")
-    office.submit("-d", "nobody", pdf)
-    office.ends_with(1, "", f"faxqd: bad destination\nfax: {said.program} fails\n")
-    office.submit("-d", "5550111", office.tools.modems)
-    expect(office.client.communicate()[1].endswith("fax: gs fails\n"), "a file that is no document is taken")
-    expect(len(list((office.folder / "desk/documents").iterdir())) == 3, "a refused document stays")
+def by_desk(office):
+    """A PDF that is uploaded to the desk comes page by page as its document is, and its owner gets a mail."""
+    wants_all()
+    with MailServer() as mails, Desk(office.folder, office.recorder.port, **mails.settings()) as desk:
+        status, fax = desk.submit(office.tools.document.read_bytes(), number="+1 555-0111")
+        expect(status == 201, f"the upload is answered {status} {fax}")
+        office.has_sent([1, 2, 3], dials=1, tries=1)
+        within("the mail", lambda: mails.mails)
+        expect("all 3 pages were confirmed" in mails.mails[0][1].get_content(), f"the mail is {mails.mails[0][1]}")
 
 
 # Wrong workers: the part that finds each out, a text of the worker, and what stands in its place.

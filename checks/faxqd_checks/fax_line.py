@@ -10,12 +10,13 @@ import signal
 import socket
 import struct
 import subprocess
+import sys
 import tempfile
 import threading
 import time
 
 from .shared import (CHECKS, CLOSE, EXAMPLES, MANY, NO_WAITS, NotTried, Peer, Server, expect, get, is_whole, library, option,
-                     post, said, wants, within)
+                     post, wants, within)
 
 PATIENCE = 100  # seconds until whatever is awaited counts as never coming
 SPEED = 3  # times as fast as a telephone line; efax waits in real time, and takes no more
@@ -177,7 +178,7 @@ class Office:
         self.recorder = Recorder(self.server.port)
         self.line = Line(self.tools.modems, self.folder)
         self.environment = dict(os.environ, FAXQD=f"http://127.0.0.1:{self.recorder.port}", no_proxy="*", CLIENT="desk",
-                                PROGRAM=str(said.program), LIMIT="10", PAUSE="0.1", WAIT="0.3", PLUS="00")
+                                LIMIT="10", PAUSE="0.1", WAIT="0.3", PLUS="00")
         self.start_worker()
 
     def start_worker(self, device=None, documents=None, **more):
@@ -199,15 +200,15 @@ class Office:
                     found.append(int(entry.name))
         return found
 
-    def submit(self, *words):
-        """Has a client hand in a fax."""
-        words = [EXAMPLES / "fax", self.folder / "desk", *words]
-        self.client = subprocess.Popen(words, stdout=subprocess.PIPE, stderr=subprocess.PIPE, text=True,
-                                       env=self.environment)
-
     def send(self):
-        """Has a client hand in the fax of three pages, and wait for its end."""
-        self.submit("-d", "+1 555-0111", "--wait", self.tools.document)
+        """Has a client submit the fax of three pages, and wait for its end."""
+        document = self.folder / "desk/documents/fax.tif"
+        document.parent.mkdir(parents=True)
+        render(self.tools.document, document, "-sDEVICE=tiffg3", "-r204x196", "-sPAPERSIZE=a4", "-dFIXEDMEDIA", "-dFitPage")
+        faxq = f'"{sys.executable}" "{EXAMPLES}/faxq" --folder "{self.folder}/faxq"'
+        script = f'{faxq} submit "+1 555-0111" "{document}" && exec {faxq} wait 1 --every 0.1'
+        self.client = subprocess.Popen(["sh", "-c", script], stdout=subprocess.PIPE, stderr=subprocess.DEVNULL, text=True,
+                                       env=self.environment)
 
     def ask(self, path, body=""):
         """What the queue answers to another client, or to a GET."""
@@ -248,7 +249,7 @@ class Office:
         self.has_received(pages)
         called = self.line.happened("caller dials 0015550111")
         expect(called == dials, f"there were {called} calls, and the queue knows of {dials}")
-        self.ends_with(0, "1\n", "")
+        self.ends_with(0, "is done: 3 of 3 pages confirmed")
 
     def has_received(self, pages):
         document, = (self.folder / "desk/documents").iterdir()
@@ -263,10 +264,12 @@ class Office:
         bodies = {path: body for path, body, _, _ in self.recorder.seen if path.endswith("/outcome")}
         return [json.loads(body)["reason"] for body in bodies.values()]
 
-    def ends_with(self, status, out, err):
-        """How the client ends who waits."""
-        ended = *self.client.communicate(timeout=PATIENCE), self.client.returncode
-        expect(ended == (out, err, status), f"examples/fax says {ended}")
+    def ends_with(self, status, said):
+        """How the client ends who waits, if there is one."""
+        if self.client:
+            out, _ = self.client.communicate(timeout=PATIENCE)
+            expect(self.client.returncode == status and out.startswith("1\n") and said in out,
+                   f"faxq ends with {self.client.returncode}, and says {out!r}")
 
     def stop(self):
         for process in filter(None, (self.client, self.worker, self.server and self.server.process)):

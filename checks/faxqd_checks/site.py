@@ -1,13 +1,15 @@
-"""nginx in front of the queue, with the site of docs/OPERATIONS.md."""
+"""nginx in front of the queue and the desk, with the site of docs/OPERATIONS.md."""
 import base64
 import contextlib
 import http.client
+import http.server
 import re
 import ssl
 import subprocess
+import threading
 
 from .runner import group
-from .shared import CLOSE, EXAMPLES, MANY, Server, TOP, answer_to, expect, free_port, get, is_free, wants, within
+from .shared import CLOSE, MANY, Server, TOP, answer_to, expect, free_port, get, is_free, wants, within
 
 check = group("site", "Tries the site of docs/OPERATIONS.md in nginx.", "waiting")
 
@@ -21,11 +23,9 @@ class Proxy:
     """nginx with the site of OPERATIONS.md, in which only addresses and paths of files are replaced. The password of its users is
     `secret`."""
 
-    def __init__(self, folder, page, *users):
+    def __init__(self, folder, *users):
         self.folder, self.port, self.log, self.process = folder, free_port(), folder / "fax.log", None
         folder.chmod(0o755)
-        (folder / "www").mkdir()
-        (folder / "www/office.html").write_bytes(page.read_bytes())
         self.does("openssl", "req", "-x509", "-newkey", "ec", "-pkeyopt", "ec_paramgen_curve:P-256", "-nodes", "-keyout",
                   folder / "key", "-out", folder / "pem", "-days", "2", "-subj", "/CN=localhost")
         secret = self.does("openssl", "passwd", "-apr1", "secret")
@@ -37,26 +37,26 @@ class Proxy:
         expect(ran.returncode == 0, f"{words[0]} says {ran.stderr}")
         return ran.stdout.strip()
 
-    def configuration(self, queue):
-        """The configuration, for a queue at this port."""
+    def configuration(self, queue, desk):
+        """The configuration, for a queue and a desk at these ports."""
         text = (TOP / "docs/OPERATIONS.md").read_text()
         site = code_of(text, r"# Fax-Client has to be", r"\}\n(?=\n)")
         logs = code_of(text, "log_format fax", r"access_log [^\n]*;")
         for old, new, times in (("listen 443", f"listen 127.0.0.1:{self.port}", 1), ("/etc/nginx/fax.pem", self.folder / "pem", 1),
                                 ("/etc/nginx/fax.key", self.folder / "key", 1), ("/etc/nginx/fax.users", self.folder / "users", 1),
                                 ("http://127.0.0.1:4559", f"http://127.0.0.1:{queue}", 2),
-                                ("/usr/share/faxqd", self.folder / "www", 1)):
+                                ("http://127.0.0.1:4560", f"http://127.0.0.1:{desk}", 1)):
             expect(site.count(old) == times, f"the site of OPERATIONS.md hasn't {old} {times} times")
             site = site.replace(old, str(new))
         logs = re.sub(r"access_log \S+", f"access_log {self.log}", logs)
         places = " ".join(f"{kind}_temp_path {self.folder}/{kind};" for kind in ("client_body", "proxy", "fastcgi", "uwsgi", "scgi"))
         return (f"pid {self.folder}/pid; error_log {self.folder}/errors; events {{}} daemon off; user root;\n"
-                f"http {{ {places} types {{ text/html html; }}\n{logs}{site}}}\n")
+                f"http {{ {places}\n{logs}{site}}}\n")
 
-    def start(self, queue):
-        """Starts nginx in front of a queue at this port, or starts it again."""
+    def start(self, queue, desk):
+        """Starts nginx in front of a queue and a desk at these ports, or starts it again."""
         self.stop()
-        (self.folder / "nginx.conf").write_text(self.configuration(queue))
+        (self.folder / "nginx.conf").write_text(self.configuration(queue, desk))
         # `daemon off` has nginx end with its workers when it gets SIGTERM, and not when it is killed.
         self.process = subprocess.Popen(["nginx", "-c", self.folder / "nginx.conf", "-p", self.folder],
                                         stdin=subprocess.DEVNULL, stdout=subprocess.DEVNULL, stderr=subprocess.PIPE, text=True)
@@ -100,18 +100,18 @@ FAX = "number:5550111\ntotpages:1\n"
 @check
 def recipe(folder):
     """A request in the login's own name and a GET reach the queue, one in another's name is refused, as is one without the
-    password; /modems and /grants are the workers' alone, and a purge is nobody's, however the path is written; and / is the
-    page."""
+    password; /modems and /grants are the workers' alone, and a purge is nobody's, however the path is written; and what browsers ask
+    reaches the desk with the login as the user."""
     wants("nginx", "openssl")
     (folder / "setup").write_text("Modem: ttyS0\n")
-    proxy = Proxy(folder, EXAMPLES / "office.html", "desk", "other", "0", "ttyS0")
-    with Server(folder / "queue.db", *MANY, "--setup", folder / "setup") as server:
+    proxy = Proxy(folder, "desk", "other", "0", "ttyS0")
+    with Server(folder / "queue.db", *MANY, "--setup", folder / "setup") as server, StubDesk() as desk:
         try:
-            proxy.start(server.port)
+            proxy.start(server.port, desk.port)
             names(proxy)
             workers(proxy)
             purges(proxy)
-            page(proxy)
+            browsers(proxy, desk)
         finally:
             proxy.stop()
         listed = answer_to(server.port, get("/jobs", CLOSE))[1].decode()
@@ -145,7 +145,7 @@ def names(proxy):
         asked = Asked(proxy, "POST", "/jobs", "desk", FAX, fields=named(*clients, number=2))
         expect(asked.status in (400, 403), f"a fax of {clients} is answered {asked.status}")
     is_answered(Asked(proxy, "POST", "/jobs", "desk", FAX, fields=named(number=2)), 400, True, "a fax of nobody")
-    for method, path, body in (("GET", "/jobs", None), ("POST", "/jobs", FAX), ("GET", "/office.html", None)):
+    for method, path, body in (("GET", "/jobs", None), ("POST", "/jobs", FAX), ("GET", "/jobs/newest", None)):
         fields = named("desk", number=2) if method == "POST" else ()
         is_answered(Asked(proxy, method, path, None, body, fields=fields), 401, False, f"{method} {path} without a login")
         asked = Asked(proxy, method, path, "desk", body, "secrets", fields)
@@ -181,11 +181,49 @@ def purges(proxy):
         expect(400 <= asked.status < 500, f"a purge by {path} is answered {asked.status}")
 
 
-def page(proxy):
-    """/ leads to the page, and the page's reply names the login."""
-    asked = Asked(proxy, "GET", "/", "desk")
-    expect((asked.status, asked.fields["Location"].partition(str(proxy.port))[2]) == (302, "/office.html"),
-           f"/ is answered {asked.status}, {asked.fields['Location']}")
-    asked = Asked(proxy, "GET", "/office.html", "desk")
-    expect((asked.status, asked.body) == (200, (EXAMPLES / "office.html").read_bytes()), f"the page is {asked.status}")
-    expect(asked.fields["Fax-Client"] == "desk", f"the page's login is {asked.fields['Fax-Client']}")
+def browsers(proxy, desk):
+    """What a browser asks reaches the desk alone, and the user is the login, whatever the browser states."""
+    for method, path, body in (("GET", "/", None), ("POST", "/faxes", "x" * 70_000), ("GET", "/faxes/1/pages/2", None),
+                               ("GET", "/static/desk.css", None)):
+        asked = Asked(proxy, method, path, "desk", body, fields=(("X-Remote-User", "other"),))
+        expect((asked.status, asked.body) == (200, b"desk"), f"{method} {path} is answered {asked.status} {asked.body[:200]!r}")
+        users, host = desk.seen[-1]
+        expect((users, host) == (["desk"], f"127.0.0.1:{proxy.port}"), f"the desk sees the users {users} at {host}")
+        expect(Asked(proxy, method, path, None, body).status == 401, f"{method} {path} without a login is answered")
+    count = len(desk.seen)
+    for path in "/fax", "/metrics", "/health", "/jobs", "/x/faxes":
+        Asked(proxy, "GET", path, "desk")
+    expect(len(desk.seen) == count, f"the desk is asked {desk.seen[count:]}")
+    expect(Asked(proxy, "POST", "/faxes", "desk", "x" * 22_020_097).status == 413, "more than 21 MB are taken")
+
+
+class StubDesk:
+    """Answers each request `desk`, and keeps who it says asks, and at which host."""
+
+    def __init__(self):
+        self.seen = seen = []
+
+        class Handler(http.server.BaseHTTPRequestHandler):
+            def do_GET(self):
+                self.rfile.read(int(self.headers.get("Content-Length", 0)))
+                seen.append((self.headers.get_all("X-Remote-User"), self.headers["Host"]))
+                self.send_response(200)
+                self.send_header("Content-Length", "4")
+                self.end_headers()
+                self.wfile.write(b"desk")
+
+            do_POST = do_GET
+
+            def log_message(self, *_):
+                pass
+
+        self.server = http.server.ThreadingHTTPServer(("127.0.0.1", 0), Handler)
+        self.port = self.server.server_address[1]
+        threading.Thread(target=self.server.serve_forever, daemon=True).start()
+
+    def __enter__(self):
+        return self
+
+    def __exit__(self, *_):
+        self.server.shutdown()
+        self.server.server_close()

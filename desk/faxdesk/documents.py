@@ -1,0 +1,164 @@
+"""Documents: what is uploaded, and the TIFF that a modem sends of it.
+
+Each is stored once, under its SHA-256. A conversion runs in a sandbox (bubblewrap) that has the system's programs, the one
+file and a folder of its own, and neither a network nor the desk's data; and with limits of time, memory and size."""
+import hashlib
+import os
+import pathlib
+import shutil
+import subprocess
+import tempfile
+
+from .client import pages_of, put, sync, without_first
+from .client import Fault as ClientFault
+
+HERE = pathlib.Path(__file__).resolve().parent
+LINES = {"fine": 196, "standard": 98}  # to an inch, by ITU-T T.4
+DOTS = 204
+MOST_OUTPUT = 200  # megabytes that a conversion may write
+VARIABLES = {"PATH": "/usr/bin", "HOME": "/tmp", "LANG": "C.UTF-8"}
+SEEN = "/usr", "/etc/alternatives", "/etc/fonts", "/etc/ghostscript", "/var/lib/ghostscript", "/var/cache/fontconfig"
+
+
+class Unusable(Exception):
+    """Why no fax can be made of a file, as a sentence."""
+
+
+def kind_of(head, is_text):
+    """Returns what a file is by its first bytes, whatever its name is."""
+    if head.startswith(b"%PDF-") or head.startswith(b"%!PS"):
+        return "page"
+    if head[:4] in (b"II*\0", b"MM\0*"):
+        return "tiff"
+    if head.startswith(b"\x89PNG\r\n\x1a\n") or head.startswith(b"\xff\xd8\xff"):
+        return "picture"
+    if head.lstrip(b"\xef\xbb\xbf \t\r\n")[:1] == b"<":
+        raise Unusable("The file is a web page. Print it into a PDF.")
+    if is_text:
+        return "text"
+    raise Unusable("The file is none of PDF, PostScript, TIFF, PNG, JPEG and plain text.")
+
+
+def is_plain_text(data):
+    """Whether the bytes are UTF-8 with something to print."""
+    try:
+        text = data.decode()
+    except UnicodeDecodeError:
+        return False
+    return bool(text.strip()) and all(letter.isprintable() or letter in "\t\n\r\f\ufeff" for letter in text)
+
+
+class Documents:
+    """The files of the desk: `uploads` and `documents`, and `work` for conversions."""
+
+    def __init__(self, settings):
+        self.settings = settings
+        self.uploads, self.made, self.work = (settings.place / name for name in ("uploads", "documents", "work"))
+        for folder in self.uploads, self.made:
+            folder.mkdir(parents=True, exist_ok=True)
+        shutil.rmtree(self.work, ignore_errors=True)  # what a conversion left that was killed
+        self.work.mkdir()
+        sync(settings.place)
+
+    def store(self, stream):
+        """Stores an upload, and returns its SHA-256. A file that is empty or too large is unusable."""
+        most, size, digest = self.settings.megabytes * 10**6, 0, hashlib.sha256()
+        with tempfile.NamedTemporaryFile(dir=self.uploads, prefix=".", delete=False) as new:
+            try:
+                while piece := stream.read(65536):
+                    size += len(piece)
+                    if size > most:
+                        raise Unusable(f"The file has more than {self.settings.megabytes} MB.")
+                    digest.update(piece)
+                    new.write(piece)
+                if not size:
+                    raise Unusable("The file is empty.")
+                new.flush()
+                os.fsync(new.fileno())
+                os.rename(new.name, self.uploads / digest.hexdigest())
+            except BaseException:
+                os.unlink(new.name)
+                raise
+        sync(self.uploads)
+        return digest.hexdigest()
+
+    def file(self, name):
+        """The TIFF of this name."""
+        return self.made / f"{name}.tif"
+
+    def keep(self, data):
+        """Stores a TIFF, and returns its name."""
+        name = hashlib.sha256(data).hexdigest()
+        if not self.file(name).exists():
+            put(self.file(name), data)
+        return name
+
+    def convert(self, uploads, resolution):
+        """Makes one TIFF of uploads, in their order. Returns its name, and how many pages it has."""
+        files = [self.uploads / upload for upload in uploads]
+        with tempfile.TemporaryDirectory(dir=self.work) as room:
+            made = self.printed(pathlib.Path(room), files, resolution)
+            try:
+                pages = len(pages_of(made)[1])
+                data = made.read_bytes()
+            except (ClientFault, OSError):
+                pages = 0
+        if not pages:
+            raise Unusable("The file has no page.")
+        if pages > self.settings.pages:
+            raise Unusable(f"The fax has more than {self.settings.pages} pages.")
+        return self.keep(data), pages
+
+    def printed(self, room, files, resolution):
+        """Prints files into a TIFF within a folder."""
+        pages = [self.page_of(room, files, place) for place in range(len(files))]
+        self.run(room, files, "gs", "-q", "-dSAFER", "-dBATCH", "-dNOPAUSE", "-sDEVICE=tiffg3", f"-r{DOTS}x{LINES[resolution]}",
+                 f"-sPAPERSIZE={self.settings.paper}", "-dFIXEDMEDIA", "-dFitPage", f"-dLastPage={self.settings.pages + 1}",
+                 "-sOutputFile=/work/fax", *pages)
+        return room / "fax"
+
+    def page_of(self, room, files, place):
+        """Makes what ghostscript reads of one of these files. Returns where that is in the sandbox."""
+        data, source, made = files[place].read_bytes(), f"/in/{place}", f"/work/{place}"
+        kind = kind_of(data[:1024], is_plain_text(data))
+        if kind == "page":
+            return source
+        if kind == "tiff":
+            self.run(room, files, "tiff2pdf", "-o", made, source)
+        elif kind == "picture":
+            self.run(room, files, "/usr/bin/python3", "-I", "/picture.py", source, made)
+        else:
+            self.run(room, files, "sh", "-c", 'exec paps "$1" "$2" > "$3"', "sh", f"--paper={self.settings.paper}", source, made)
+        return made
+
+    def run(self, room, files, *words):
+        """Runs a program in the sandbox, which has the files as `/in/0` and so on, and the folder as `/work`."""
+        inputs = [word for place, file in enumerate(files) for word in ("--ro-bind", str(file), f"/in/{place}")]
+        system = [word for place in SEEN for word in ("--ro-bind-try", place, place)]
+        links = [word for name in ("bin", "lib", "lib64") for word in ("--symlink", f"usr/{name}", f"/{name}")]
+        places = ["--proc", "/proc", "--dev", "/dev", "--tmpfs", "/tmp", "--ro-bind", str(HERE / "picture.py"), "/picture.py"]
+        own = ["--bind", str(room), "/work", "--chdir", "/work"]
+        alone = ["--unshare-all", "--die-with-parent", "--new-session", "--clearenv"]
+        variables = [word for name, value in VARIABLES.items() for word in ("--setenv", name, value)]
+        sandbox = ["bwrap", *system, *links, *places, *inputs, *own, *alone, *variables]
+        limits = ["prlimit", f"--as={self.settings.memory * 10**6}", f"--cpu={self.settings.seconds}",
+                  f"--fsize={MOST_OUTPUT * 10**6}", "--core=0", "--"]
+        try:
+            ran = subprocess.run([*sandbox, *limits, *words], stdin=subprocess.DEVNULL, capture_output=True,
+                                 timeout=self.settings.seconds)
+        except subprocess.TimeoutExpired:
+            raise Unusable(f"The file takes longer than {self.settings.seconds} s to convert.") from None
+        if ran.returncode != 0:
+            raise Unusable("The file can't be printed: it is damaged, protected by a password, or too large.")
+
+    def rest(self, name, first):
+        """Makes the TIFF of this name from a page on. Returns its name, and how many pages it has."""
+        data, places, order = pages_of(self.file(name))
+        return self.keep(without_first(data, places, order, first)), len(places) - first + 1
+
+    def preview(self, name, page):
+        """Returns a page of the TIFF of this name as a PNG, half as large."""
+        with tempfile.TemporaryDirectory(dir=self.work) as room:
+            words = "/usr/bin/python3", "-I", "/picture.py", "--page", str(page), "/in/0", "/work/page"
+            self.run(pathlib.Path(room), [self.file(name)], *words)
+            return (pathlib.Path(room) / "page").read_bytes()

@@ -1,0 +1,95 @@
+"""The desk's settings: a file of TOML, each value of which has a default."""
+import dataclasses
+import pathlib
+import re
+import tomllib
+
+from .client import NAME, Fault
+
+
+PAPERS = "a4", "letter", "legal"
+
+
+@dataclasses.dataclass(frozen=True)
+class Settings:
+    # Where the desk listens. It believes a proxy on this machine alone.
+    listen: str = "127.0.0.1:4560"
+    # The queue, and the desk's name as its client.
+    server: str = "http://127.0.0.1:4559"
+    client: str = "desk"
+    # What the desk keeps: its database, uploads, documents and what the queue hasn't answered.
+    folder: str = "/var/lib/faxqd-desk"
+    # Who sees and changes all faxes.
+    administrators: tuple = ()
+    # Who asks, where no proxy says so: for one person on one machine. Without it such a request is refused.
+    user: str = ""
+    # Limits of a file: its megabytes, its pages, and the seconds and megabytes of memory that its conversion may take.
+    megabytes: int = 20
+    pages: int = 100
+    seconds: int = 60
+    memory: int = 1024
+    # The paper: a4, letter or legal.
+    paper: str = "a4"
+    # Mail to owners when a fax is over: the mail server as host:port, the sender, and the domain of the users' addresses. A user
+    # whose address isn't the name at that domain is in the table `addresses`.
+    smtp: str = ""
+    sender: str = "fax@localhost"
+    domain: str = "localhost"
+    addresses: dict = dataclasses.field(default_factory=dict)
+    # Without smtp, a command that gets the number of the fax, its owner and `done` or `failed` as arguments, and the text.
+    notice: tuple = ()
+    # The desk's address as people have it, for links in mails.
+    link: str = ""
+    # Seconds between two looks at the queue.
+    pause: float = 2.0
+
+    @property
+    def place(self):
+        return pathlib.Path(self.folder)
+
+    def address(self):
+        """Where the desk listens: host and port."""
+        host, _, port = self.listen.rpartition(":")
+        return host.strip("[]"), int(port)
+
+    def address_of(self, user):
+        """The mail address of a user."""
+        return self.addresses.get(user, f"{user}@{self.domain}")
+
+    def user_of(self, address):
+        """The user of a mail address, or none."""
+        for user, own in self.addresses.items():
+            if own.lower() == address.lower():
+                return user
+        name, _, domain = address.rpartition("@")
+        known = domain.lower() == self.domain.lower() and re.fullmatch(NAME, name) and name not in self.addresses
+        return name if known else None
+
+
+def read_settings(file):
+    """The settings of a file, or a fault that names the first line or value that is wrong."""
+    try:
+        values = tomllib.loads(pathlib.Path(file).read_text())
+    except (OSError, UnicodeDecodeError, tomllib.TOMLDecodeError) as fault:
+        raise Fault(f"{file}: {fault}", 2) from None
+    for name in "administrators", "notice":
+        if isinstance(values.get(name), list) and all(isinstance(word, str) for word in values[name]):
+            values[name] = tuple(values[name])
+    kinds = {name: type(value) for name, value in dataclasses.asdict(Settings()).items()}
+    for name, value in values.items():
+        if name not in kinds:
+            raise Fault(f"{file}: there is no setting {name}", 2)
+        if type(value) is not kinds[name] and not (kinds[name] is float and type(value) is int):
+            raise Fault(f"{file}: {name} is no {kinds[name].__name__}", 2)
+        if kinds[name] is dict and not all(isinstance(one, str) for one in value.values()):
+            raise Fault(f"{file}: {name} has a value that is no str", 2)
+        if kinds[name] in (int, float) and value <= 0:
+            raise Fault(f"{file}: {name} is to be above 0", 2)
+    settings = Settings(**values)
+    if settings.paper not in PAPERS:
+        raise Fault(f"{file}: paper is none of {', '.join(PAPERS)}", 2)
+    try:
+        settings.address()
+    except ValueError:
+        raise Fault(f"{file}: listen is no address and port, as 127.0.0.1:4560", 2) from None
+    return settings

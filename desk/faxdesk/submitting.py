@@ -1,0 +1,53 @@
+"""Submits a fax to the desk on this machine for a user: for mail and for printers.
+
+It repeats an upload under its token until the desk answers, so it is one fax."""
+import http.client
+import json
+import secrets
+import time
+
+LIMIT = 60  # seconds for one upload
+
+
+class Refused(Exception):
+    """Why the desk doesn't accept a fax."""
+
+
+class Away(Exception):
+    """Why the desk doesn't answer."""
+
+
+def form(fields, files):
+    """The body of a form (RFC 7578), and its type. A file has a name and its bytes."""
+    mark = secrets.token_hex(16)
+    parts = [(f'form-data; name="{name}"', str(value).encode()) for name, value in fields.items()]
+    for name, data in files:
+        quoted = "".join(letter for letter in name if letter.isprintable()).replace("\\", "/").replace('"', "'")
+        parts.append((f'form-data; name="file"; filename="{quoted}"', data))
+    body = b"".join(f"--{mark}\r\nContent-Disposition: {head}\r\n\r\n".encode() + data + b"\r\n" for head, data in parts)
+    return body + f"--{mark}--\r\n".encode(), f"multipart/form-data; boundary={mark}"
+
+
+def submit(address, user, fields, files, tries=1, pause=5):
+    """Submits a fax, and returns its number at the desk. The fields have its token."""
+    body, kind = form(fields, files)
+    for left in reversed(range(tries)):
+        door = http.client.HTTPConnection(*address, timeout=LIMIT)
+        try:
+            door.request("POST", "/faxes", body, {"Content-Type": kind, "X-Remote-User": user, "Accept": "application/json"})
+            reply = door.getresponse()
+            status, received = reply.status, json.loads(reply.read())
+            if status == 201:
+                return received["id"]
+            if 400 <= status < 500:
+                raise Refused(received["fault"])
+            raise Away(f"the desk answers {status}")
+        except (OSError, ValueError, KeyError, TypeError, http.client.HTTPException) as fault:
+            why = Away(f"the desk doesn't answer: {fault}")
+        except Away as fault:
+            why = fault
+        finally:
+            door.close()
+        if left:
+            time.sleep(pause)
+    raise why
