@@ -9,7 +9,7 @@ import threading
 import time
 
 from .desk import Desk, MailServer, wants_all
-from .fax_line import Office, Tools, render
+from .fax_line import Office, Tools, image, render
 from .runner import group
 from .shared import Wrong, expect, fault, new_folder, say, told, within
 
@@ -218,6 +218,21 @@ def by_desk(office):
         office.has_sent([1, 2, 3], dials=1, tries=1)
         within("the mail", lambda: mails.mails)
         expect("all 3 pages were confirmed" in mails.mails[0][1].get_content(), f"the mail is {mails.mails[0][1]}")
+
+
+@part
+def header(office):
+    """A line with time, number and page is above each page, and the page below it is as it was sent."""
+    office.kill(office.worker)
+    office.start_worker(options=("-l", "+1 415 555 0199"), HEADER="%Y   FROM   page %%d of %%d")
+    office.send()
+    office.is_in("7")
+    sent = [image(f"{office.folder}/desk/documents/fax.tif,{page}")[2] for page in range(3)]
+    received = [image(file)[2] for file in office.line.confirmed()]
+    expect(len(received) == 3, f"{len(received)} pages have come")
+    for page, (before, after) in enumerate(zip(sent, received), 1):
+        above = len(after) - len(before)
+        expect(above > 5 and after[above:] == before, f"page {page} has {above} lines above, and isn't as it was sent")
 
 
 # Wrong workers: the part that finds each out, a text of the worker, and what stands in its place.

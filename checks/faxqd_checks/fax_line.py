@@ -178,11 +178,11 @@ class Office:
         self.recorder = Recorder(self.server.port)
         self.line = Line(self.tools.modems, self.folder)
         self.environment = dict(os.environ, FAXQD=f"http://127.0.0.1:{self.recorder.port}", no_proxy="*", CLIENT="desk",
-                                LIMIT="10", PAUSE="0.1", WAIT="0.3", PLUS="00")
+                                LIMIT="10", PAUSE="0.1", WAIT="0.3", PLUS="00", HEADER="")
         self.start_worker()
 
-    def start_worker(self, device=None, documents=None, **more):
-        words = ["ttyS0", self.folder / "ttyS0", documents or self.folder, "-d", device or self.line.caller]
+    def start_worker(self, device=None, documents=None, options=(), **more):
+        words = ["ttyS0", self.folder / "ttyS0", documents or self.folder, "-d", device or self.line.caller, *options]
         with open(self.folder / "worker", "a") as says:
             self.worker = subprocess.Popen([self.tools.worker, *words], stderr=says, env={**self.environment, **more})
 

@@ -37,7 +37,7 @@ def done(*words, **more):
 def versions(folder):
     """The version of a package of each of these moments, by packages of another program that are built in a repository of their
     own."""
-    for name in "packaging", "examples", "man", "docs":
+    for name in "packaging", "examples", "desk", "man", "docs":
         shutil.copytree(TOP / name, folder / name)
     git = "git", "-C", folder, "-c", "user.name=check", "-c", "user.email=check@example.org"
     done(*git, "init", "--quiet")
