@@ -25,8 +25,9 @@ MADE = [
     post("/modems/ttyS1/down", 7, client="w1"), post("/numbers/floor", 5, '{"upto":3}', "old"),
 ]
 
-# Changes that leave the queue sound. How many calls there are is counted again when the file is opened. Numbers may have gaps,
-# and a closed grant may lack its job.
+CLOCK = "(SELECT clock FROM meta)"
+
+# Changes that leave the queue sound. How many calls there are is counted again when the file is opened. Numbers may have gaps.
 SPARED = [
     "", "VACUUM", NO_INDEXES, "DELETE FROM calls", "UPDATE calls SET open = 5", "INSERT INTO calls VALUES ('5550122', 3)",
     f"DROP TABLE calls; {CALLS}", SECOND, SECOND_BARE, f"{SECOND_BARE}; {CALLS}", FIRST, FIRST_BARE, f"{FIRST_BARE}; {CALLS}", "DELETE FROM replies", "DELETE FROM floors",
@@ -34,11 +35,12 @@ SPARED = [
     "UPDATE holds SET rowid = 77", "UPDATE meta SET clock = 4102444800",
     "UPDATE replies SET number = 999999999999999999 WHERE client = 'desk' AND number = 1",
     "UPDATE floors SET upto = 999999999999999999",
-    *(f"DELETE FROM jobs WHERE job = {job}; DELETE FROM times WHERE job = {job}" for job in (2, 3, 5)),
+    *(f"DELETE FROM jobs WHERE job = {job}; DELETE FROM times WHERE job = {job}; DELETE FROM grants WHERE job = {job}"
+      for job in (2, 3, 5)),
     # Before the third version closed grants might lack their job.
     f"DELETE FROM jobs WHERE job = 2; {SECOND}", f"DELETE FROM jobs WHERE job = 2; {FIRST}",
-    "UPDATE times SET submitted = 0", "UPDATE times SET submitted = 4102444800", "UPDATE times SET ended = 0",
-    "UPDATE times SET ended = 4102444800 WHERE job IN (2, 5)", "UPDATE meta SET next_job = 7",
+    "UPDATE times SET submitted = 0", f"UPDATE times SET submitted = {CLOCK}", "UPDATE times SET ended = 0",
+    f"UPDATE times SET ended = {CLOCK} WHERE job IN (2, 5)", "UPDATE meta SET next_job = 7",
     "UPDATE meta SET next_job = 1000000", "DELETE FROM grants WHERE id = 2", "UPDATE meta SET next_grant = 4",
     "UPDATE jobs SET job = 9 WHERE job = 3; UPDATE times SET job = 9 WHERE job = 3; UPDATE meta SET next_job = 10",
 ]
@@ -80,10 +82,16 @@ SPOILT = [
         "client = 'a b'", "client = ''", "upto = 0", "upto = -1", "upto = 1000000000000000000")),
     *((f"UPDATE times SET {change} WHERE job = 3", "times", "job = 3") for change in (
         "submitted = -1", "submitted = 4102444801", "ended = -1", "ended = 4102444801", "ended = 1")),
+    (f"UPDATE times SET submitted = {CLOCK} + 1 WHERE job = 3", "times", "job = 3"),
+    (f"UPDATE times SET ended = {CLOCK} + 1 WHERE job = 5", "times", "job = 5"),
+    ("UPDATE meta SET clock = 0", "times", "job = 1"),
     ("UPDATE times SET job = 9 WHERE job = 3", "times", "job = 9"),
     ("INSERT INTO times VALUES (9, 0, 0)", "times", "job = 9"),
     ("DELETE FROM jobs WHERE job = 3", "times", "job = 3"),
     ("UPDATE jobs SET phase = 1, npages = 0 WHERE job = 5", "times", "job = 5"),
+    # A closed grant whose job isn't there.
+    ("DELETE FROM jobs WHERE job = 2; DELETE FROM times WHERE job = 2", "grants", "id = 2"),
+    ("UPDATE grants SET job = 6 WHERE id = 2", "grants", "id = 2"),
     *((f"UPDATE meta SET {change}", "meta", "one = 1") for change in (
         "clock = -1", "clock = 4102444801", "next_job = 0", "next_job = 1000001", "next_grant = 0", "next_grant = 1000000001")),
     # Of several rows the first is told, and of several tables that which is read first.

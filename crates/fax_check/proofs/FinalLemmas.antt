@@ -78,7 +78,7 @@ holders_of old new stored now is rows shown (Ok (Right held)) of =
 holders_of old new stored now is rows shown (Ok (Wrong id)) of = λ sound.
     let it = subst (λ d. AreHoldersIn d rows (Wrong id)) (sym is) of in
     let row = hold_of old new old.now stored refl rows shown it.0 it.1 in
-    it.2 (subst (IsHoldShown old.now) (sym row.2) (hold_shown old.now sound.0 sound.1 sound.2 sound.3 row.0 row.1))
+    it.2 (subst (IsHoldShown old.now) (sym row.2) (hold_shown old.now sound.0 sound.1 sound.2 (sound.3).sound row.0 row.1))
 holders_of old new stored now is rows shown (Err e) of = tt
 
 -- ---- all tables

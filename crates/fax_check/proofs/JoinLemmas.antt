@@ -1,4 +1,4 @@
--- What a query of two tables shows, the second joined to the first by their rowids: of each row of the first, and of the second's row of the same rowid or of NULLs where there is none, some columns.
+-- What a query of two tables shows, the second joined by its rowid to a column of the first: of each row of the first, and of the second's row of that rowid or of NULLs where there is none, some columns.
 use Rattle.std.proofs.Common.{◌≡◌, inl, inr, ℕ, List, [], ◌∷◌, All, map, filter, flat_map, true, ◌&&◌, IsTrue, refl, sym, ap, ap₂, subst, ◌∙◌}
 use Rattle.std.specs.List.{list_all}
 use Rattle.std.specs.List.Sorted.{IsPermutation}
@@ -11,7 +11,7 @@ use Rattle.std.specs.Ordering.{is_eq}
 use Rattle.std.specs.declared.cmp.Ordering.TheVariants.{Equal}
 use Rattle.sqlite.proofs.Callers.{reads_as}
 use Rattle.sqlite.specs.Effect.{Database}
-use Rattle.sqlite.specs.Order.{Row}
+use Rattle.sqlite.specs.Order.{Row, column}
 use Rattle.sqlite.specs.Program.{overlay}
 use Rattle.sqlite.specs.Query.{Query, IsAnswer, Output, end, inner, left, or_nulls, output}
 use Rattle.sqlite.specs.State.{State, Shown}
@@ -41,20 +41,20 @@ use Rattle.fax_schema.proofs.EditLemmas.{has_mapped, has_permuted}
 use Rattle.fax_schema.proofs.SelectLemmas.{rows_by}
 use Rattle.fax_schema.proofs.StatementForms.{SelectsAll, equals}
 
--- by their rowids
-abbrev pub joined_on : List Term
-joined_on = equals (col 2 0) (col 1 0) ∷ []
+-- by the rowid of the second and this column of the first
+abbrev pub joined_on : ℕ → List Term
+joined_on at = equals (col 2 0) (col 1 at) ∷ []
 
-abbrev pub joined_query : ℕ → ℕ → List Term → Query
-joined_query first second project = record (rows_by first [] project []) { from = inner first (left second joined_on end) }
+abbrev pub joined_query : ℕ → ℕ → ℕ → List Term → Query
+joined_query at first second project = record (rows_by first [] project []) { from = inner first (left second (joined_on at) end) }
 
 -- ---- what is joined to a row
 
-abbrev pub partners : List Row → Row → List Row
-partners others r = filter (λ s. list_all (holds ([] ∷ r ∷ s ∷ [])) joined_on) others
+abbrev pub partners : ℕ → List Row → Row → List Row
+partners at others r = filter (λ s. list_all (holds ([] ∷ r ∷ s ∷ [])) (joined_on at)) others
 
-abbrev joined : List Row → Row → List Env
-joined others r = flat_map (λ s. ([] ∷ r ∷ s ∷ []) ∷ []) (or_nulls (partners others r))
+abbrev joined : ℕ → List Row → Row → List Env
+joined at others r = flat_map (λ s. ([] ∷ r ∷ s ∷ []) ∷ []) (or_nulls (partners at others r))
 
 -- a list that was made of parts has what is in one of them
 has_part : {A B : Type 0} (f : A → List B) (xs : List A) (y : B) → Has (flat_map f xs) y → (x : A) × Has xs x × Has (f x) y
@@ -79,67 +79,67 @@ same_int a b int other tie =
     let right = int_is b other in
     left ∙ ap Int (exact_signed (id_in a) (id_in b) (sym (value_cmp-Int (id_in a) (id_in b)) ∙ sym (ap₂ value_cmp left right) ∙ tie)) ∙ sym right
 
-module _ (others : List Row) (by : IsByRowid others) (r : Row) (int : IsTrue (is_int (rowid r))) where
+module _ (at : ℕ) (others : List Row) (by : IsByRowid others) (r : Row) (int : IsTrue (is_int (column r at))) where
   keyed : (s : Row) → Has others s → IsTrue (is_int (rowid s))
   keyed s has = all_has (λ x. IsTrue (is_int (rowid x))) others s by.integers has
 
-  -- what is joined has the row's rowid
-  pub partner_there : (s : Row) → Has (partners others r) s → Has others s × (rowid s ≡ rowid r)
+  -- what is joined has the row's value for its rowid
+  pub partner_there : (s : Row) → Has (partners at others r) s → Has others s × (rowid s ≡ column r at)
   partner_there s has =
-      let it = has_filtered (λ s. list_all (holds ([] ∷ r ∷ s ∷ [])) joined_on) others s has in
-      let on : are_equal (rowid s) (rowid r) ≡ true = (and_parts (are_equal (rowid s) (rowid r)) true it.1).0 in
-      (it.0, same_int (rowid s) (rowid r) (keyed s it.0) int (equal_is _ (sym (equal_ints (rowid s) (rowid r) (keyed s it.0) int) ∙ on)))
+      let it = has_filtered (λ s. list_all (holds ([] ∷ r ∷ s ∷ [])) (joined_on at)) others s has in
+      let on : are_equal (rowid s) (column r at) ≡ true = (and_parts (are_equal (rowid s) (column r at)) true it.1).0 in
+      (it.0, same_int (rowid s) (column r at) (keyed s it.0) int (equal_is _ (sym (equal_ints (rowid s) (column r at) (keyed s it.0) int) ∙ on)))
 
   -- what has it is joined
-  there_partner : (s : Row) → Has others s → rowid s ≡ rowid r → Has (partners others r) s
+  there_partner : (s : Row) → Has others s → rowid s ≡ column r at → Has (partners at others r) s
   there_partner s has is =
-      let tied : value_cmp (rowid s) (rowid r) ≡ Equal = ap (λ v. value_cmp v (rowid r)) is ∙ tied_itself value_cmp_total (rowid r) in
-      let on : are_equal (rowid s) (rowid r) ≡ true = equal_ints (rowid s) (rowid r) (keyed s has) int ∙ ap is_eq tied in
-      has_kept (λ s. list_all (holds ([] ∷ r ∷ s ∷ [])) joined_on) others s has (ap (λ b. b && true) on)
+      let tied : value_cmp (rowid s) (column r at) ≡ Equal = ap (λ v. value_cmp v (column r at)) is ∙ tied_itself value_cmp_total (column r at) in
+      let on : are_equal (rowid s) (column r at) ≡ true = equal_ints (rowid s) (column r at) (keyed s has) int ∙ ap is_eq tied in
+      has_kept (λ s. list_all (holds ([] ∷ r ∷ s ∷ [])) (joined_on at)) others s has (ap (λ b. b && true) on)
 
   -- and nothing else is, nor NULLs
-  pub only_partner : (s : Row) → Has others s → rowid s ≡ rowid r → (t : Row) → Has (or_nulls (partners others r)) t → t ≡ s
-  only_partner s has is t with_it = by_list (partners others r) refl with_it
+  pub only_partner : (s : Row) → Has others s → rowid s ≡ column r at → (t : Row) → Has (or_nulls (partners at others r)) t → t ≡ s
+  only_partner s has is t with_it = by_list (partners at others r) refl with_it
     where
-      same : Has (partners others r) t → t ≡ s
-      same among = let it = partner_there t among in tied_same others t s by.rise it.0 has (ap (value_cmp (rowid t)) is ∙ ap (λ v. value_cmp v (rowid r)) it.1 ∙ tied_itself value_cmp_total (rowid r))
+      same : Has (partners at others r) t → t ≡ s
+      same among = let it = partner_there t among in tied_same others t s by.rise it.0 has (ap (value_cmp (rowid t)) is ∙ ap (λ v. value_cmp v (column r at)) it.1 ∙ tied_itself value_cmp_total (column r at))
 
-      by_list : (found : List Row) → partners others r ≡ found → Has (or_nulls found) t → t ≡ s
+      by_list : (found : List Row) → partners at others r ≡ found → Has (or_nulls found) t → t ≡ s
       by_list [] none nulls = absurd (subst (λ all. Has all s) none (there_partner s has is))
       by_list (x ∷ more) are among = same (subst (λ all. Has all t) (sym are) among)
 
 -- ---- what is shown
 
-module _ (sql : List ℕ) (first second : ℕ) (project : List Term) (names : List (List ℕ)) (selects : SelectsAll sql (joined_query first second project) names)
+module _ (sql : List ℕ) (at first second : ℕ) (project : List Term) (names : List (List ℕ)) (selects : SelectsAll sql (joined_query at first second project) names)
     (plain_first : (trees : Trees) → overlay trees [] first ≡ trees first) (plain_second : (trees : Trees) → overlay trees [] second ≡ trees second)
     (old new : State) (db : Database) (ours : db.schema ≡ our_tables) (now : old.now ≡ db) (rows : List Row) (shown : Shown sql [] old new rows) where
   abbrev pairs : Database → List Env
-  pairs d = flat_map (joined (d.trees second)) (d.trees first)
+  pairs d = flat_map (joined at (d.trees second)) (d.trees first)
 
   -- of each pair, in any order
   pairs_shown : IsPermutation (map (eval_all project) (pairs db)) rows
   pairs_shown =
-      let query = joined_query first second project in
+      let query = joined_query at first second project in
       let read = reads_as sql [] old new our_tables (ap (λ (d : Database). d.schema) now ∙ ours) _ selects.command selects.plain selects.unlisted rows shown in
       let a : IsAnswer query (overlay old.now.trees []) [] rows = read.answer Null in
-      let staged : a.staged ≡ pairs old.now = a.grouped ∙ ap₂ (λ (others mine : List Row). flat_map (joined others) mine) (plain_second old.now.trees) (plain_first old.now.trees) in
+      let staged : a.staged ≡ pairs old.now = a.grouped ∙ ap₂ (λ (others mine : List Row). flat_map (joined at others) mine) (plain_second old.now.trees) (plain_first old.now.trees) in
       let kept : map (λ (o : Output). o.1) a.kept ≡ map (eval_all project) (pairs db) =
       ap (map (λ (o : Output). o.1)) (a.distinct ∙ ap (map (output query)) staged) ∙ map-map _ _ _ ∙ ap (λ d. map (eval_all project) (pairs d)) now in
       subst (IsPermutation (map (eval_all project) (pairs db))) (sym a.shown)
       (subst (λ all. IsPermutation all (map (λ (o : Output). o.1) a.ordered)) kept (IsPermutation-map (λ (o : Output). o.1) a.kept a.ordered a.same))
 
   -- what holds of all that is shown holds of each row with each that is joined to it
-  pub each_joined : (P : Row → Type 0) → All P rows → (r s : Row) → Has (db.trees first) r → Has (or_nulls (partners (db.trees second) r)) s → P (eval_all project ([] ∷ r ∷ s ∷ []))
+  pub each_joined : (P : Row → Type 0) → All P rows → (r s : Row) → Has (db.trees first) r → Has (or_nulls (partners at (db.trees second) r)) s → P (eval_all project ([] ∷ r ∷ s ∷ []))
   each_joined P all r s has with_it =
       let env : Env = [] ∷ r ∷ s ∷ [] in
-      let pair = part_has (joined (db.trees second)) (db.trees first) r env has (part_has (λ s. ([] ∷ r ∷ s ∷ []) ∷ []) (or_nulls (partners (db.trees second) r)) s env with_it (inl refl)) in
+      let pair = part_has (joined at (db.trees second)) (db.trees first) r env has (part_has (λ s. ([] ∷ r ∷ s ∷ []) ∷ []) (or_nulls (partners at (db.trees second) r)) s env with_it (inl refl)) in
       all_has P rows (eval_all project env) (recursion_from_All P rows all) (has_permuted (map (eval_all project) (pairs db)) rows (eval_all project env) pairs_shown (mapped_has (eval_all project) (pairs db) env pair))
 
   -- and the other way round
-  pub joined_each : (P : Row → Type 0) → ((r s : Row) → Has (db.trees first) r → Has (or_nulls (partners (db.trees second) r)) s → P (eval_all project ([] ∷ r ∷ s ∷ []))) → All P rows
+  pub joined_each : (P : Row → Type 0) → ((r s : Row) → Has (db.trees first) r → Has (or_nulls (partners at (db.trees second) r)) s → P (eval_all project ([] ∷ r ∷ s ∷ []))) → All P rows
   joined_each P each = All-permutation P (map (eval_all project) (pairs db)) rows pairs_shown (of_all P (map (eval_all project) (pairs db)) (λ row has.
       let env = has_mapped (eval_all project) (pairs db) row has in
-      let of = has_part (joined (db.trees second)) (db.trees first) env.0 env.1 in
-      let with_it = has_part (λ s. ([] ∷ of.0 ∷ s ∷ []) ∷ []) (or_nulls (partners (db.trees second) of.0)) env.0 of.2 in
+      let of = has_part (joined at (db.trees second)) (db.trees first) env.0 env.1 in
+      let with_it = has_part (λ s. ([] ∷ of.0 ∷ s ∷ []) ∷ []) (or_nulls (partners at (db.trees second) of.0)) env.0 of.2 in
       let is : env.0 ≡ [] ∷ of.0 ∷ with_it.0 ∷ [] = elim with_it.2 [ inl same ↦ same | inr none ↦ absurd none ] in
       subst P (sym (env.2 ∙ ap (eval_all project) is)) (each of.0 with_it.0 of.1 with_it.1)))

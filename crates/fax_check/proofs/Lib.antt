@@ -18,3 +18,4 @@ pub mod HeldLemmas
 pub mod WholeLemmas
 pub mod MeantLemmas
 pub mod FinalLemmas
+pub mod ConsistentLemmas

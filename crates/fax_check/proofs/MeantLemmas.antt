@@ -1,4 +1,4 @@
--- Where the rows mean a sound queue, each is as it has to be.
+-- Where the rows mean a consistent queue, each is as it has to be.
 use Rattle.std.proofs.Common.{◌≡◌, inl, inr, ℕ, pos, ◌<◌, ◌≤◌, List, [], ◌∷◌, map, filter, drop, length, All, Bool, true, false, Option, Some, None, refl, sym, ap, subst, ◌∙◌, arith}
 use Rattle.std.specs.Prelude.{◌==◌}
 use Rattle.std.specs.List.{list_any}
@@ -25,7 +25,9 @@ use Rattle.fax_core.specs.Job.{Job, fields_of, job_of}
 use Rattle.fax_core.specs.Ledger.{Ledger, IsLawfulEntry}
 use Rattle.fax_core.specs.Queue.{Queue, grant_numbered, job_numbered, open_grants}
 use Rattle.fax_core.specs.Sound.{AscendBetween, FitsFree, FitsGrant, IsJob, IsOpen, Sound}
+use Rattle.fax_core.specs.Laws.{ArePast, GrantsHaveJobs}
 use Rattle.fax_core.specs.Times.{AreTimed}
+use Rattle.fax_core.specs.declared.times.Times.{Times}
 use Rattle.fax_core.specs.State.{calls_to, is_of_number}
 use Rattle.fax_core.specs.declared.grants.Grant.{Grant}
 use Rattle.fax_value.specs.Name.{IsName}
@@ -37,10 +39,10 @@ use Rattle.fax_tables.proofs.KeyLemmas.{only_numbered}
 use Rattle.fax_tables.specs.Job.{IsLawfulJob}
 use Rattle.fax_tables.specs.Meta.{meta_of}
 use Rattle.fax_tables.specs.Row.{call_columns, down_columns, entry_columns, grant_row, hold_columns, job_row, number, phase_number, times_row}
-use Rattle.fax_tables.specs.Tables.{AreLawfulTimes, IsLawfulGrant, TablesMean}
+use Rattle.fax_tables.specs.Tables.{IsLawfulGrant, TablesMean}
 use Rattle.fax_check.proofs.TimedLemmas.{job_with, low_phase, times_of}
 use Rattle.fax_check.specs.Meant.{HoldRowsAreRight, SoundRowsAreWhole, holder_of}
-use Rattle.fax_check.specs.Whole.{IsWholeTable, passed, Holder, IsCallRow, IsDownRow, IsFloorRow, IsGrantRow, IsHeld, IsJobRow, IsReplyRow, IsRightHolder, IsTimed, IsTimesRow, Stands, dialing, holder_columns}
+use Rattle.fax_check.specs.Whole.{IsWholeTable, passed, Holder, IsCallRow, IsDownRow, IsFloorRow, IsGrantRow, IsHeld, IsJobRow, IsOwned, IsReplyRow, IsRightHolder, IsTimed, IsTimesRow, Stands, dialing, holder_columns}
 
 -- ---- lists
 
@@ -195,20 +197,19 @@ module _ (db : Database) (m : Queue) (k : Ledger) (means : TablesMean db m k) wh
 
   -- ---- times
 
-  module _ (timed : AreTimed m.jobs m.times) where
+  module _ (timed : AreTimed m.jobs m.times) (past : ArePast m.clock m.times) where
     -- a row of times is that of a job's
-    times_is : (row : Row) → Has (db.trees times_tree) row → IsTimesRow db row
+    times_is : (row : Row) → Has (db.trees times_tree) row → IsTimesRow (meta_of m) db row
     times_is row has =
         let it = has_mapped times_row m.times row (subst (λ rows. Has rows row) means.times has) in
         let x = it.0 in
         let j = job_with m.jobs m.times timed x it.1 in
-        let lawful = of_all AreLawfulTimes m.times x means.lawful.times it.1 in
         let id : column row 0 ≡ number x.job = ap (λ r. column r 0) it.2 in
         record {
           submitted = x.submitted;
           ended = x.ended;
           is = it.2 ∙ ap (λ v. v ∷ Null ∷ number x.submitted ∷ number x.ended ∷ []) (sym id);
-          moments = (lawful.submitted, lawful.ended);
+          past = all_has (λ (y : Times). (y.submitted ≤ m.clock) × (y.ended ≤ m.clock)) m.times x past it.1;
           job = job_row (fields_of j.0);
           has_job = job_stands j.0 j.1;
           its = ap number (sym j.2.job) ∙ sym id;
@@ -223,6 +224,19 @@ module _ (db : Database) (m : Queue) (k : Ledger) (means : TablesMean db m k) wh
         let it = job_there row has in
         let x = times_of m.jobs m.times timed it.0 it.1 in
         (times_row x.0, subst (λ rows. Has rows (times_row x.0)) (sym means.times) (mapped_has times_row m.times x.0 x.1), ap number x.2.job ∙ sym (ap (λ r. column r 0) it.2))
+
+  -- ---- jobs of grants
+
+  -- a row of grants has its job
+  owned_is : GrantsHaveJobs m → (row : Row) → Has (db.trees grants_tree) row → IsOwned db row
+  owned_is owned row has =
+      let it = grant_there row has in
+      let j = owned (it.0).number it.0 (grant_found it.0 it.1) in
+      let there = has_found (λ (x : Job). x.number == (it.0).job) m.jobs j.0 j.1 in (
+        job_row (fields_of j.0),
+        job_stands j.0 there.0,
+        ap number (eqb-true (j.0).number (it.0).job there.1) ∙ sym (ap (λ r. column r 2) it.2),
+      )
 
   -- ---- a sound queue with these holders
 
@@ -354,7 +368,7 @@ hold_rows_are_right db m k means sound row has =
     (holder_of it.0 (of.0).dial, it.2, right_of db m k means it.0 of.0 it.1 of.1 of.2)
 
 pub sound_rows_are_whole : SoundRowsAreWhole
-sound_rows_are_whole db m k held means sound same right = record {
+sound_rows_are_whole db m k held means consistent same right = let sound = consistent.sound in record {
   meta_is = means.meta;
   numbers = λ q. record { clock = means.lawful.meta.clock; next_job = means.lawful.meta.next_job; next_grant = means.lawful.meta.next_grant };
   holders = same;
@@ -364,8 +378,11 @@ sound_rows_are_whole db m k held means sound same right = record {
     (
       job_is db m k means sound held same,
       (
-        times_is db m k means sound.timed,
-        (timed_is db m k means sound.timed, (down_is db m k means, (reply_is db m k means, (floor_is db m k means, (call_is db m k means sound held same right, tt))))),
+        times_is db m k means sound.timed consistent.past,
+        (
+          timed_is db m k means sound.timed consistent.past,
+          (owned_is db m k means consistent.owned, (down_is db m k means, (reply_is db m k means, (floor_is db m k means, (call_is db m k means sound held same right, tt))))),
+        ),
       ),
     ),
   );

@@ -1,5 +1,5 @@
 -- The rules of our tables say that each of their rows has all its columns.
-use Rattle.std.proofs.Common.{◌≡◌, ℕ, zero, suc, ◌+◌, ◌≤◌, List, [], ◌∷◌, map, drop, length, slice_get, true, false, not, ◌||◌, Option, Some, None, refl, sym, ap, ap₂, subst, length-drop, add-one, ◌∙◌, arith}
+use Rattle.std.proofs.Common.{IsTrue, ◌≡◌, ℕ, zero, suc, ◌+◌, ◌≤◌, List, [], ◌∷◌, map, drop, length, slice_get, true, false, not, ◌||◌, Option, Some, None, refl, sym, ap, ap₂, subst, length-drop, add-one, ◌∙◌, arith}
 use Rattle.std.specs.List.{list_all, range_with_len}
 use Rattle.std.proofs.lemmas.Bool.{and_parts}
 use Rattle.std.proofs.lemmas.Bool.Decides.{nat_tests}
@@ -8,6 +8,7 @@ use Rattle.sqlite.specs.Effect.{Database}
 use Rattle.sqlite.specs.Order.{Row, column}
 use Rattle.sqlite.specs.declared.types.Value.{Value}
 use Rattle.sqlite.specs.declared.types.Value.TheVariants.{Null, Int, Real, Text, Blob}
+use Rattle.sqlite.specs.View.{is_int}
 use Rattle.sqlite_rules.specs.Lists.{Has}
 use Rattle.sqlite_rules.proofs.ListLemmas.{all_has}
 use Rattle.sqlite_rules.proofs.RuleLemmas.{keeps_at}
@@ -123,6 +124,14 @@ text_is (Real x) t h = absurd cc
 text_is (Text s) t h = (s, refl)
 text_is (Blob b) t h = absurd cc
 
+-- and one of a column of integers
+int_of : (v : Value) → is_of kind.Integer v ≡ true → not (is_null v) ≡ true → IsTrue (is_int v)
+int_of Null t h = absurd cc
+int_of (Int n) t h = refl
+int_of (Real x) t h = absurd cc
+int_of (Text s) t h = absurd cc
+int_of (Blob b) t h = absurd cc
+
 -- ---- the rows of our tables
 
 module _ (db : Database) (stored : IsStored db) where
@@ -149,6 +158,13 @@ module _ (db : Database) (stored : IsStored db) where
     grant_columns_of has =
         let k = keyed_row (schema.grants).columns r (omega arith) refl (typed schema.grants r has (all_has _ (db.trees grants_tree) r types.1.0 has)) (all_has _ (db.trees grants_tree) r needs.1.0 has) in
         columns_of 9 r k.0 ∙ ap (λ v. column r 0 ∷ v ∷ column r 2 ∷ column r 3 ∷ column r 4 ∷ column r 5 ∷ column r 6 ∷ column r 7 ∷ column r 8 ∷ []) k.1
+
+    -- the number of its job is an integer
+    pub grant_job : Has (db.trees grants_tree) r → IsTrue (is_int (column r 2))
+    grant_job has =
+        let of_type = subst (λ (row : Row). are_typed (Some 0) 0 schema.grants.columns (drop 1 row) ≡ true) (grant_columns_of has) (typed schema.grants r has (all_has _ (db.trees grants_tree) r types.1.0 has)) in
+        let of_need : are_present (Some 0) 0 schema.grants.columns r ≡ true = all_has _ (db.trees grants_tree) r needs.1.0 has in
+        int_of (column r 2) (and_parts (is_of kind.Integer (column r 2)) _ of_type).0 (and_parts (not (is_null (column r 2))) _ of_need).0
 
     -- that of times
     pub times_columns_of : Has (db.trees times_tree) r → r ≡ column r 0 ∷ Null ∷ column r 2 ∷ column r 3 ∷ []

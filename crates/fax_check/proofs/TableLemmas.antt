@@ -16,10 +16,10 @@ use Rattle.sqlite_sql.specs.Term.{Term, col, eval_all}
 use Rattle.sqlite_trees.specs.Tree.{Trees}
 use Rattle.fax_check.specs.Check.{IsTableChecked, Told, flaw_in}
 use Rattle.fax_check.specs.Pass.{IsPassed}
-use Rattle.fax_check.specs.Whole.{Each, Holder, IsCallRow, IsDownRow, IsFloorRow, IsGrantRow, IsJobRow, IsReplyRow, IsTimed, IsTimesRow, HasInteger, Shows, ShowsCall, ShowsFloor, ShowsGrant, ShowsJob, ShowsName, ShowsReply, ShowsTimes, text_of}
+use Rattle.fax_check.specs.Whole.{Each, Holder, IsCallRow, IsDownRow, IsFloorRow, IsGrantRow, IsJobRow, IsOwned, IsReplyRow, IsTimed, IsTimesRow, HasInteger, Shows, ShowsCall, ShowsFloor, ShowsGrant, ShowsJob, ShowsName, ShowsReply, ShowsTimes, text_of}
 use Rattle.fax_check.specs.Sound.{IsStored}
 use Rattle.fax_check.specs.declared.tables.Query.{Query}
-use Rattle.fax_check.specs.declared.tables.Query.TheVariants.{Calls, Down, Floors, Grants, Jobs, Replies, Timed, Times}
+use Rattle.fax_check.specs.declared.tables.Query.TheVariants.{Calls, Down, Floors, Grants, Jobs, Owned, Replies, Timed, Times}
 use Rattle.fax_check.proofs.BridgeLemmas as bridge
 use Rattle.fax_check.proofs.BridgeLemmas.{at_is, five, two, unshown_grant, unshown_job}
 use Rattle.fax_check.proofs.FieldLemmas.{numbers}
@@ -36,7 +36,7 @@ use Rattle.fax_tables.specs.declared.meta.Meta.{Meta}
 use Rattle.fax_core.specs.Queue.{Entry}
 use Rattle.sqlite.specs.Listing.{understood}
 use Rattle.sqlite_tied.specs.Compute.{everything}
-use Rattle.fax_check.specs.declared.tables.TheConstants.{SELECT_ALL_JOBS, SELECT_ALL_GRANTS, SELECT_ALL_HOLDS, SELECT_ALL_DOWN, SELECT_ALL_REPLIES, SELECT_ALL_FLOORS, SELECT_ALL_CALLS, SELECT_ALL_TIMES, SELECT_ALL_TIMED}
+use Rattle.fax_check.specs.declared.tables.TheConstants.{SELECT_ALL_JOBS, SELECT_ALL_GRANTS, SELECT_ALL_HOLDS, SELECT_ALL_DOWN, SELECT_ALL_REPLIES, SELECT_ALL_FLOORS, SELECT_ALL_CALLS, SELECT_ALL_TIMES, SELECT_ALL_TIMED, SELECT_ALL_OWNED}
 use Rattle.fax_store.specs.Store.{IsQueryText}
 
 -- ---- what the queries mean
@@ -87,16 +87,23 @@ select_all_calls = record { command = refl; plain = (refl, refl); unlisted = ref
 abbrev pub all_times_project : List Term
 all_times_project = col 1 0 ∷ col 1 2 ∷ col 1 3 ∷ col 2 18 ∷ []
 
-pub select_all_times : SelectsAll SELECT_ALL_TIMES.now (joined_query times_tree jobs_tree all_times_project) (codes "job" ∷ codes "submitted" ∷ codes "ended" ∷ codes "phase" ∷ [])
+pub select_all_times : SelectsAll SELECT_ALL_TIMES.now (joined_query 0 times_tree jobs_tree all_times_project) (codes "job" ∷ codes "submitted" ∷ codes "ended" ∷ codes "phase" ∷ [])
 unfolding understood everything
 select_all_times = record { command = refl; plain = (refl, refl); unlisted = refl }
 
 abbrev pub all_timed_project : List Term
 all_timed_project = col 1 0 ∷ col 2 0 ∷ []
 
-pub select_all_timed : SelectsAll SELECT_ALL_TIMED.now (joined_query jobs_tree times_tree all_timed_project) (codes "job" ∷ codes "job" ∷ [])
+pub select_all_timed : SelectsAll SELECT_ALL_TIMED.now (joined_query 0 jobs_tree times_tree all_timed_project) (codes "job" ∷ codes "job" ∷ [])
 unfolding understood everything
 select_all_timed = record { command = refl; plain = (refl, refl); unlisted = refl }
+
+abbrev pub all_owned_project : List Term
+all_owned_project = col 1 0 ∷ col 2 0 ∷ []
+
+pub select_all_owned : SelectsAll SELECT_ALL_OWNED.now (joined_query 2 grants_tree jobs_tree all_owned_project) (codes "id" ∷ codes "job" ∷ [])
+unfolding understood everything
+select_all_owned = record { command = refl; plain = (refl, refl); unlisted = refl }
 
 -- each query only reads
 pub is_query : (query : Query) → IsQueryText (text_of query)
@@ -104,6 +111,7 @@ is_query Jobs = select_all_jobs.plain
 is_query Grants = select_all_grants.plain
 is_query Times = select_all_times.plain
 is_query Timed = select_all_timed.plain
+is_query Owned = select_all_owned.plain
 is_query Down = select_all_down.plain
 is_query Replies = select_all_replies.plain
 is_query Floors = select_all_floors.plain
@@ -169,24 +177,21 @@ module _ (db : Database) (stored : IsStored db) (meta : Meta) (held : List Holde
 
 -- ---- times and jobs
 
-module _ (db : Database) (stored : IsStored db) (r : Row) where
+module _ (db : Database) (stored : IsStored db) (meta : Meta) (r : Row) where
   of_times : Has (db.trees times_tree) r → IsTrue (is_int (rowid r))
   of_times has = all_has (λ x. IsTrue (is_int (rowid x))) (db.trees times_tree) r stored.ordered.times.integers has
 
-  of_jobs : Has (db.trees jobs_tree) r → IsTrue (is_int (rowid r))
-  of_jobs has = all_has (λ x. IsTrue (is_int (rowid x))) (db.trees jobs_tree) r stored.ordered.jobs.integers has
-
   -- times, with the job that is joined to them
-  times_are : Has (db.trees times_tree) r → (found : List Row) → partners (db.trees jobs_tree) r ≡ found → ((s : Row) → Has (or_nulls found) s → ShowsTimes (eval_all all_times_project ([] ∷ r ∷ s ∷ []))) → IsTimesRow db r
+  times_are : Has (db.trees times_tree) r → (found : List Row) → partners 0 (db.trees jobs_tree) r ≡ found → ((s : Row) → Has (or_nulls found) s → ShowsTimes meta (eval_all all_times_project ([] ∷ r ∷ s ∷ []))) → IsTimesRow meta db r
   times_are has [] none shows = absurd (let it = (shows [] (inl refl)).ended.in_phase.is in cc)
   times_are has (s ∷ more) are shows =
       let it = shows s (inl refl) in
-      let job = partner_there (db.trees jobs_tree) stored.ordered.jobs r (of_times has) s (subst (λ all. Has all s) (sym are) (inl refl)) in
+      let job = partner_there 0 (db.trees jobs_tree) stored.ordered.jobs r (of_times has) s (subst (λ all. Has all s) (sym are) (inl refl)) in
       record {
         submitted = it.submitted.0;
         ended = it.ended.ended.0;
         is = shape.times_columns_of db stored r has ∙ ap₂ (λ a b. column r 0 ∷ Null ∷ a ∷ b ∷ []) it.submitted.1.is it.ended.ended.1.is;
-        moments = (it.submitted.2, it.ended.ended.2);
+        past = (it.submitted.2, it.ended.ended.2);
         job = s;
         has_job = job.0;
         its = job.1;
@@ -195,37 +200,62 @@ module _ (db : Database) (stored : IsStored db) (r : Row) where
         not_over = λ low. numbers it.ended.ended.0 0 (sym it.ended.ended.1.is ∙ (it.ended.not_over low).is);
       }
 
-  pub times_is : Has (db.trees times_tree) r → ((s : Row) → Has (or_nulls (partners (db.trees jobs_tree) r)) s → ShowsTimes (eval_all all_times_project ([] ∷ r ∷ s ∷ []))) → IsTimesRow db r
-  times_is has shows = times_are has (partners (db.trees jobs_tree) r) refl shows
+  pub times_is : Has (db.trees times_tree) r → ((s : Row) → Has (or_nulls (partners 0 (db.trees jobs_tree) r)) s → ShowsTimes meta (eval_all all_times_project ([] ∷ r ∷ s ∷ []))) → IsTimesRow meta db r
+  times_is has shows = times_are has (partners 0 (db.trees jobs_tree) r) refl shows
 
-  pub times_shows : Has (db.trees times_tree) r → IsTimesRow db r → (s : Row) → Has (or_nulls (partners (db.trees jobs_tree) r)) s → ShowsTimes (eval_all all_times_project ([] ∷ r ∷ s ∷ []))
+  pub times_shows : Has (db.trees times_tree) r → IsTimesRow meta db r → (s : Row) → Has (or_nulls (partners 0 (db.trees jobs_tree) r)) s → ShowsTimes meta (eval_all all_times_project ([] ∷ r ∷ s ∷ []))
   times_shows has it s joined =
-      let same = only_partner (db.trees jobs_tree) stored.ordered.jobs r (of_times has) it.job it.has_job it.its s joined in
+      let same = only_partner 0 (db.trees jobs_tree) stored.ordered.jobs r (of_times has) it.job it.has_job it.its s joined in
       let ended : column r 3 ≡ number it.ended = ap (λ row. column row 3) it.is in
       record {
-        submitted = (it.submitted, record { within = omega arith; is = ap (λ row. column row 2) it.is }, it.moments.0);
+        submitted = (it.submitted, record { within = omega arith; is = ap (λ row. column row 2) it.is }, it.past.0);
         ended = record {
-          ended = (it.ended, record { within = omega arith; is = ended }, it.moments.1);
+          ended = (it.ended, record { within = omega arith; is = ended }, it.past.1);
           phase = it.phase;
           in_phase = record { within = omega arith; is = ap (λ row. column row 18) same ∙ it.in_phase };
           not_over = λ low. record { within = omega arith; is = ended ∙ ap number (it.not_over low) };
         };
       }
 
+-- ---- jobs and times, grants and jobs
+
+module _ (db : Database) (stored : IsStored db) (r : Row) where
+  of_jobs : Has (db.trees jobs_tree) r → IsTrue (is_int (rowid r))
+  of_jobs has = all_has (λ x. IsTrue (is_int (rowid x))) (db.trees jobs_tree) r stored.ordered.jobs.integers has
+
   -- a job, with the times that are joined to it
-  timed_by : Has (db.trees jobs_tree) r → (found : List Row) → partners (db.trees times_tree) r ≡ found → ((s : Row) → Has (or_nulls found) s → HasInteger (eval_all all_timed_project ([] ∷ r ∷ s ∷ [])) 1) → IsTimed db r
+  timed_by : Has (db.trees jobs_tree) r → (found : List Row) → partners 0 (db.trees times_tree) r ≡ found → ((s : Row) → Has (or_nulls found) s → HasInteger (eval_all all_timed_project ([] ∷ r ∷ s ∷ [])) 1) → IsTimed db r
   timed_by has [] none shows = absurd (let it = (shows [] (inl refl)).1.is in cc)
   timed_by has (s ∷ more) are shows =
-      let times = partner_there (db.trees times_tree) stored.ordered.times r (of_jobs has) s (subst (λ all. Has all s) (sym are) (inl refl)) in
+      let times = partner_there 0 (db.trees times_tree) stored.ordered.times r (of_jobs has) s (subst (λ all. Has all s) (sym are) (inl refl)) in
       (s, times.0, times.1)
 
-  pub timed_is : Has (db.trees jobs_tree) r → ((s : Row) → Has (or_nulls (partners (db.trees times_tree) r)) s → HasInteger (eval_all all_timed_project ([] ∷ r ∷ s ∷ [])) 1) → IsTimed db r
-  timed_is has shows = timed_by has (partners (db.trees times_tree) r) refl shows
+  pub timed_is : Has (db.trees jobs_tree) r → ((s : Row) → Has (or_nulls (partners 0 (db.trees times_tree) r)) s → HasInteger (eval_all all_timed_project ([] ∷ r ∷ s ∷ [])) 1) → IsTimed db r
+  timed_is has shows = timed_by has (partners 0 (db.trees times_tree) r) refl shows
 
-  pub timed_shows : Has (db.trees jobs_tree) r → IsTimed db r → (s : Row) → Has (or_nulls (partners (db.trees times_tree) r)) s → HasInteger (eval_all all_timed_project ([] ∷ r ∷ s ∷ [])) 1
+  pub timed_shows : Has (db.trees jobs_tree) r → IsTimed db r → (s : Row) → Has (or_nulls (partners 0 (db.trees times_tree) r)) s → HasInteger (eval_all all_timed_project ([] ∷ r ∷ s ∷ [])) 1
   timed_shows has it s joined =
-      let same = only_partner (db.trees times_tree) stored.ordered.times r (of_jobs has) it.0 it.1 it.2 s joined in
+      let same = only_partner 0 (db.trees times_tree) stored.ordered.times r (of_jobs has) it.0 it.1 it.2 s joined in
       (id_in (rowid r), record { within = omega arith; is = ap (λ row. column row 0) same ∙ it.2 ∙ int_is (rowid r) (of_jobs has) })
+
+  -- the number of a grant's job is an integer
+  of_grants : Has (db.trees grants_tree) r → IsTrue (is_int (column r 2))
+  of_grants has = shape.grant_job db stored r has
+
+  -- a grant, with the job that is joined to it
+  owned_by : Has (db.trees grants_tree) r → (found : List Row) → partners 2 (db.trees jobs_tree) r ≡ found → ((s : Row) → Has (or_nulls found) s → HasInteger (eval_all all_owned_project ([] ∷ r ∷ s ∷ [])) 1) → IsOwned db r
+  owned_by has [] none shows = absurd (let it = (shows [] (inl refl)).1.is in cc)
+  owned_by has (s ∷ more) are shows =
+      let job = partner_there 2 (db.trees jobs_tree) stored.ordered.jobs r (of_grants has) s (subst (λ all. Has all s) (sym are) (inl refl)) in
+      (s, job.0, job.1)
+
+  pub owned_is : Has (db.trees grants_tree) r → ((s : Row) → Has (or_nulls (partners 2 (db.trees jobs_tree) r)) s → HasInteger (eval_all all_owned_project ([] ∷ r ∷ s ∷ [])) 1) → IsOwned db r
+  owned_is has shows = owned_by has (partners 2 (db.trees jobs_tree) r) refl shows
+
+  pub owned_shows : Has (db.trees grants_tree) r → IsOwned db r → (s : Row) → Has (or_nulls (partners 2 (db.trees jobs_tree) r)) s → HasInteger (eval_all all_owned_project ([] ∷ r ∷ s ∷ [])) 1
+  owned_shows has it s joined =
+      let same = only_partner 2 (db.trees jobs_tree) stored.ordered.jobs r (of_grants has) it.0 it.1 it.2 s joined in
+      (id_in (column r 2), record { within = omega arith; is = ap (λ row. column row 0) same ∙ it.2 ∙ int_is (column r 2) (of_grants has) })
 
 -- ---- what a pass decides
 
@@ -262,12 +292,17 @@ module _ (old new : State) (db : Database) (stored : IsStored db) (now : old.now
   table_checked Calls found shown t =
       checked (text_of Calls) calls_tree all_calls_project _ select_all_calls (λ trees. refl) (Shows meta held Calls) (IsCallRow held) (call_is db stored meta held) (call_shows db stored meta held) shown Calls found t
   table_checked Times found shown t =
-      told Times (All ShowsTimes rows) (Each db times_tree (IsTimesRow db))
-      (λ all r has. times_is db stored r has (λ s joined. each_joined (text_of Times) times_tree jobs_tree all_times_project _ select_all_times (λ trees. refl) (λ trees. refl) old new db stored.schema_is now rows shown ShowsTimes all r s has joined))
-      (λ each. joined_each (text_of Times) times_tree jobs_tree all_times_project _ select_all_times (λ trees. refl) (λ trees. refl) old new db stored.schema_is now rows shown ShowsTimes (λ r s has joined. times_shows db stored r has (each r has) s joined))
+      told Times (All (ShowsTimes meta) rows) (Each db times_tree (IsTimesRow meta db))
+      (λ all r has. times_is db stored meta r has (λ s joined. each_joined (text_of Times) 0 times_tree jobs_tree all_times_project _ select_all_times (λ trees. refl) (λ trees. refl) old new db stored.schema_is now rows shown (ShowsTimes meta) all r s has joined))
+      (λ each. joined_each (text_of Times) 0 times_tree jobs_tree all_times_project _ select_all_times (λ trees. refl) (λ trees. refl) old new db stored.schema_is now rows shown (ShowsTimes meta) (λ r s has joined. times_shows db stored meta r has (each r has) s joined))
       found t
   table_checked Timed found shown t =
       told Timed (All (λ row. HasInteger row 1) rows) (Each db jobs_tree (IsTimed db))
-      (λ all r has. timed_is db stored r has (λ s joined. each_joined (text_of Timed) jobs_tree times_tree all_timed_project _ select_all_timed (λ trees. refl) (λ trees. refl) old new db stored.schema_is now rows shown (λ row. HasInteger row 1) all r s has joined))
-      (λ each. joined_each (text_of Timed) jobs_tree times_tree all_timed_project _ select_all_timed (λ trees. refl) (λ trees. refl) old new db stored.schema_is now rows shown (λ row. HasInteger row 1) (λ r s has joined. timed_shows db stored r has (each r has) s joined))
+      (λ all r has. timed_is db stored r has (λ s joined. each_joined (text_of Timed) 0 jobs_tree times_tree all_timed_project _ select_all_timed (λ trees. refl) (λ trees. refl) old new db stored.schema_is now rows shown (λ row. HasInteger row 1) all r s has joined))
+      (λ each. joined_each (text_of Timed) 0 jobs_tree times_tree all_timed_project _ select_all_timed (λ trees. refl) (λ trees. refl) old new db stored.schema_is now rows shown (λ row. HasInteger row 1) (λ r s has joined. timed_shows db stored r has (each r has) s joined))
+      found t
+  table_checked Owned found shown t =
+      told Owned (All (λ row. HasInteger row 1) rows) (Each db grants_tree (IsOwned db))
+      (λ all r has. owned_is db stored r has (λ s joined. each_joined (text_of Owned) 2 grants_tree jobs_tree all_owned_project _ select_all_owned (λ trees. refl) (λ trees. refl) old new db stored.schema_is now rows shown (λ row. HasInteger row 1) all r s has joined))
+      (λ each. joined_each (text_of Owned) 2 grants_tree jobs_tree all_owned_project _ select_all_owned (λ trees. refl) (λ trees. refl) old new db stored.schema_is now rows shown (λ row. HasInteger row 1) (λ r s has joined. owned_shows db stored r has (each r has) s joined))
       found t

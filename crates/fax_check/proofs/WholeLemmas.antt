@@ -1,4 +1,4 @@
--- Rows that are each as they have to be mean a sound queue.
+-- Rows that are each as they have to be mean a consistent queue.
 use Rattle.std.proofs.Common.{◌≡◌, ◌≢◌, inl, inr, ◌<◌, ◌≤◌, ℕ, List, [], ◌∷◌, false, leb, length, map, filter, drop, Bool, true, Option, Some, None, IsTrue, refl, sym, ap, subst, ◌∙◌, arith}
 use Rattle.std.specs.Prelude.{◌==◌}
 use Rattle.std.specs.List.Sorted.{IsPermutation}
@@ -17,7 +17,7 @@ use Rattle.sqlite_rules.proofs.ListLemmas.{all_from, all_has, has_filtered, has_
 use Rattle.sqlite_rules.proofs.ProbeLemmas.{mapped_has}
 use Rattle.sqlite_trees.proofs.ListLemmas.{IsPermutation-filter, ascending-filter, ascending-map, ascending_weaker, filter-map, filter_same, map-map}
 use Rattle.fax_check.specs.Sound.{IsSound, IsStored}
-use Rattle.fax_check.specs.declared.tables.Query.TheVariants.{Calls, Down, Floors, Grants, Jobs, Replies, Timed, Times}
+use Rattle.fax_check.specs.declared.tables.Query.TheVariants.{Calls, Down, Floors, Grants, Jobs, Owned, Replies, Timed, Times}
 use Rattle.fax_check.specs.Whole.{AreWhole, Holder, IsWholeTable, IsHeld, IsRightHolder, Stands, dialing, holder_columns}
 use Rattle.fax_check.proofs.FieldLemmas.{dial_of as dialed_by, fit_of, number_of, numbers, one_grant, same_holder}
 use Rattle.fax_check.proofs.FloorLemmas.{IsLawfulFloor, columns_of, floor_in, floors_counted, floors_lawful}
@@ -27,9 +27,10 @@ use Rattle.fax_check.proofs.OnceLemmas.{clients_once}
 use Rattle.fax_check.proofs.TimedLemmas.{all_timed, not_over}
 use Rattle.fax_core.specs.Fits.{fits}
 use Rattle.fax_core.specs.Job.{Job, fields_of, job_of}
+use Rattle.fax_core.specs.Laws.{ArePast, GrantsHaveJobs}
 use Rattle.fax_core.specs.Ledger.{Ledger, IsLawfulEntry}
 use Rattle.fax_core.specs.Machine.{dial_of}
-use Rattle.fax_core.specs.Queue.{Queue, grant_numbered, job_numbered, open_grants}
+use Rattle.fax_core.specs.Queue.{Queue, empty_queue, grant_numbered, job_numbered, open_grants}
 use Rattle.fax_core.specs.Sound.{AscendBetween, Fits, FitsFree, IsJob, IsOpen, Sound}
 use Rattle.fax_core.specs.Times.{AreTimed, FitsTimes, has_ended}
 use Rattle.fax_core.specs.declared.times.Times.{Times as TimesOf}
@@ -37,7 +38,7 @@ use Rattle.fax_core.specs.State.{calls_to, is_of_number}
 use Rattle.fax_core.specs.declared.grants.Grant.{Grant}
 use Rattle.fax_core.proofs.FitsLemmas.{fits_decides, record_again}
 use Rattle.fax_core.proofs.RecordLemmas.{within_limits_of}
-use Rattle.fax_value.specs.Limits.{last_job}
+use Rattle.fax_value.specs.Limits.{last_job, last_moment}
 use Rattle.fax_value.specs.Name.{IsName}
 use Rattle.fax_job.specs.declared.job.JobFields.{JobFields}
 use Rattle.fax_schema.specs.Schema.{calls_tree, down_tree, floors_tree, grants_tree, holds_tree, jobs_tree, replies_tree, times_tree}
@@ -78,17 +79,20 @@ module _ (db : Database) (meta : Meta) (held : List Holder) (stored : IsStored d
   whole_timed : IsWholeTable meta held db Timed
   whole_timed = whole.tables 3 Grants (omega arith)
 
+  whole_owned : IsWholeTable meta held db Owned
+  whole_owned = whole.tables 4 Grants (omega arith)
+
   whole_down : IsWholeTable meta held db Down
-  whole_down = whole.tables 4 Grants (omega arith)
+  whole_down = whole.tables 5 Grants (omega arith)
 
   whole_replies : IsWholeTable meta held db Replies
-  whole_replies = whole.tables 5 Grants (omega arith)
+  whole_replies = whole.tables 6 Grants (omega arith)
 
   whole_floors : IsWholeTable meta held db Floors
-  whole_floors = whole.tables 6 Grants (omega arith)
+  whole_floors = whole.tables 7 Grants (omega arith)
 
   whole_calls : IsWholeTable meta held db Calls
-  whole_calls = whole.tables 7 Grants (omega arith)
+  whole_calls = whole.tables 8 Grants (omega arith)
 
   -- ---- the queue
 
@@ -98,9 +102,13 @@ module _ (db : Database) (meta : Meta) (held : List Holder) (stored : IsStored d
   jobs_made : Made job_row IsJobOf (db.trees jobs_tree)
   jobs_made = made job_row IsJobOf (db.trees jobs_tree) (λ r has. let it = whole_jobs r has in (it.job, it.is, (it.lawful, it.before, it.stands)))
 
+  -- neither of a job's times is later than the clock
+  abbrev IsPast : TimesOf → Type 0
+  IsPast x = (x.submitted ≤ meta.clock) × (x.ended ≤ meta.clock)
+
   -- times are of one of the jobs
   abbrev AreTimesOf : TimesOf → Type 0
-  AreTimesOf x = AreLawfulTimes x × (f : JobFields) × Has jobs_made.of f × (f.job ≡ x.job) × (has_ended f.phase ≡ false → x.ended ≡ 0)
+  AreTimesOf x = AreLawfulTimes x × IsPast x × (f : JobFields) × Has jobs_made.of f × (f.job ≡ x.job) × (has_ended f.phase ≡ false → x.ended ≡ 0)
 
   times_made : Made times_row AreTimesOf (db.trees times_tree)
   times_made = made times_row AreTimesOf (db.trees times_tree) (λ r has.
@@ -110,8 +118,11 @@ module _ (db : Database) (meta : Meta) (held : List Holder) (stored : IsStored d
       let phase_is : it.phase ≡ phase_number (f.0).phase = numbers it.phase (phase_number (f.0).phase) (sym it.in_phase ∙ ap (λ row. column row 18) f.2) in (
         record { job = (f.0).job; submitted = it.submitted; ended = it.ended },
         it.is ∙ ap (λ v. v ∷ Null ∷ number it.submitted ∷ number it.ended ∷ []) number_is,
-        (record { submitted = it.moments.0; ended = it.moments.1 }, f.0, f.1, refl, λ going. it.not_over (not_over (f.0).phase it.phase phase_is going)),
+        (record { submitted = moment it.submitted it.past.0; ended = moment it.ended it.past.1 }, it.past, f.0, f.1, refl, λ going. it.not_over (not_over (f.0).phase it.phase phase_is going)),
       ))
+    where
+      moment : (n : ℕ) → n ≤ meta.clock → n ≤ last_moment
+      moment n past = let clock = (whole.numbers empty_queue).clock in omega (arith, past, clock)
 
   abbrev IsGrantOf : Grant → Type 0
   IsGrantOf g = IsLawfulGrant g × (g.number < meta.next_grant) × (IsTrue g.is_open → IsHeld held g)
@@ -200,7 +211,7 @@ module _ (db : Database) (meta : Meta) (held : List Holder) (stored : IsStored d
   their_job : (x : TimesOf) → Has queue.times x → (j : Job) × Has queue.jobs j × FitsTimes j x
   their_job x has =
       let it = times_made.each x has in
-      (job_of it.1, mapped_has job_of jobs_made.of it.1 it.2, record { job = sym it.3; not_over = it.4 })
+      (job_of it.2, mapped_has job_of jobs_made.of it.2 it.3, record { job = sym it.4; not_over = it.5 })
 
   timed : AreTimed queue.jobs queue.times
   timed =
@@ -419,5 +430,20 @@ module _ (db : Database) (meta : Meta) (held : List Holder) (stored : IsStored d
     free = free_fits;
   }
 
+  -- ---- that it is consistent
+
+  -- each grant's job is there
+  queue_owned : GrantsHaveJobs queue
+  queue_owned a g is =
+      let there = has_found (λ (x : Grant). x.number == a) queue.grants g is in
+      let it = whole_owned (grant_row g) (subst (λ rows. Has rows (grant_row g)) (sym grants_made.is) (mapped_has grant_row grants_made.of g there.0)) in
+      let f = has_mapped job_row jobs_made.of it.0 (subst (λ rows. Has rows it.0) jobs_made.is it.1) in
+      let same : (f.0).job ≡ g.job = numbers (f.0).job g.job (sym (ap (λ row. column row 0) f.2) ∙ it.2) in
+      (job_of f.0, subst (λ n. job_numbered n queue ≡ Some (job_of f.0)) same (job_found f.0 f.1))
+
+  -- no submission or end is later than the clock
+  queue_past : ArePast queue.clock queue.times
+  queue_past = all_from IsPast queue.times (λ x has. (times_made.each x has).1)
+
   pub rows_are_sound : IsSound db
-  rows_are_sound = (queue, ledger, tables_mean, queue_sound)
+  rows_are_sound = (queue, ledger, tables_mean, record { sound = queue_sound; owned = queue_owned; past = queue_past })

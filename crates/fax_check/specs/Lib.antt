@@ -1,3 +1,4 @@
+pub mod Consistent
 pub mod Whole
 pub mod Sound
 pub mod Reading

@@ -1,4 +1,4 @@
--- The other way round: where the rows mean a sound queue, each is as it has to be.
+-- The other way round: where the rows mean a consistent queue, each is as it has to be.
 use Rattle.std.specs.Prelude.{◌≡◌, ℕ, List, All, map, drop}
 use Rattle.std.specs.List.Sorted.{IsPermutation}
 use Rattle.sqlite.specs.Effect.{Database}
@@ -8,6 +8,7 @@ use Rattle.fax_core.specs.Ledger.{Ledger}
 use Rattle.fax_core.specs.Queue.{Queue}
 use Rattle.fax_core.specs.Sound.{Sound}
 use Rattle.fax_core.specs.declared.grants.Grant.{Grant}
+use Rattle.fax_check.specs.Consistent.{Consistent}
 use Rattle.fax_check.specs.Whole.{AreWhole, Holder, IsRightHolder, holder_columns}
 use Rattle.fax_schema.specs.Schema.{holds_tree}
 use Rattle.fax_tables.specs.Meta.{meta_of}
@@ -26,5 +27,5 @@ HoldRowsAreRight =
 -- whatever right holders the rows of holds have, all rows are whole
 abbrev pub SoundRowsAreWhole : Type 0
 SoundRowsAreWhole =
-    (db : Database) (m : Queue) (k : Ledger) (held : List Holder) → TablesMean db m k → Sound m
+    (db : Database) (m : Queue) (k : Ledger) (held : List Holder) → TablesMean db m k → Consistent m
     → IsPermutation (map holder_columns held) (map (drop 1) (db.trees holds_tree)) → All (IsRightHolder db) held → AreWhole db (meta_of m) held

@@ -1,18 +1,18 @@
--- When rows mean a sound queue.
+-- When rows mean a consistent queue.
 use Rattle.std.specs.Prelude.{◌≡◌, List}
 use Rattle.sqlite.specs.Effect.{Database, IsDatabase}
 use Rattle.fax_core.specs.Ledger.{Ledger}
 use Rattle.fax_core.specs.Queue.{Queue}
-use Rattle.fax_core.specs.Sound.{Sound}
+use Rattle.fax_check.specs.Consistent.{Consistent}
 use Rattle.fax_check.specs.Whole.{AreWhole, Holder}
 use Rattle.fax_schema.specs.ByRowid.{IsByRowid}
 use Rattle.fax_schema.specs.Schema.{our_tables, meta_tree}
 use Rattle.fax_tables.specs.Tables.{AreByRowid, TablesMean}
 use Rattle.fax_tables.specs.declared.meta.Meta.{Meta}
 
--- the rows mean a sound queue and kept replies
+-- the rows mean a consistent queue and kept replies
 abbrev pub IsSound : Database → Type 0
-IsSound db = (m : Queue) × (k : Ledger) × TablesMean db m k × Sound m
+IsSound db = (m : Queue) × (k : Ledger) × TablesMean db m k × Consistent m
 
 -- the nine tables, which obey their rules, each with its rows by rowid
 pub record IsStored (db : Database) : Type 0 where

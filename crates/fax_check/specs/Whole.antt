@@ -1,4 +1,4 @@
--- What each row of the nine tables has to be, one by one, so that they are those of a sound queue, and what it shows.
+-- What each row of the nine tables has to be, one by one, so that they are those of a consistent queue, and what it shows.
 use Rattle.std.specs.Prelude.{◌≡◌, ◌⊎◌, ℕ, ℤ, ◌<◌, ◌≤◌, ◌^◌, ◌==◌, ◌&&◌, Bool, List, [], ◌∷◌, All, Some, None, codes, map, filter, length, drop, IsTrue, if◌then◌else◌}
 use Rattle.std.specs.List.{list_any}
 use Rattle.std.specs.List.Sorted.{IsPermutation}
@@ -11,14 +11,13 @@ use Rattle.fax_core.specs.Fits.{fits, is_granted}
 use Rattle.fax_core.specs.Job.{job_of}
 use Rattle.fax_core.specs.Queue.{Entry, Queue}
 use Rattle.fax_core.specs.declared.grants.Grant.{Grant}
-use Rattle.fax_value.specs.Limits.{last_moment}
 use Rattle.fax_value.specs.Name.{IsName}
 use Rattle.fax_job.specs.declared.job.JobFields.{JobFields}
 use Rattle.fax_check.specs.declared.tables.Query.{Query}
-use Rattle.fax_check.specs.declared.tables.Query.TheVariants.{Calls, Down, Floors, Grants, Jobs, Replies, Timed, Times}
+use Rattle.fax_check.specs.declared.tables.Query.TheVariants.{Calls, Down, Floors, Grants, Jobs, Owned, Replies, Timed, Times}
 use Rattle.fax_check.specs.declared.tables.Table.{Table}
 use Rattle.fax_check.specs.declared.tables.Table.TheVariants as table
-use Rattle.fax_check.specs.declared.tables.TheConstants.{PASSED, SELECT_ALL_CALLS, SELECT_ALL_DOWN, SELECT_ALL_FLOORS, SELECT_ALL_GRANTS, SELECT_ALL_JOBS, SELECT_ALL_REPLIES, SELECT_ALL_TIMED, SELECT_ALL_TIMES}
+use Rattle.fax_check.specs.declared.tables.TheConstants.{PASSED, SELECT_ALL_CALLS, SELECT_ALL_DOWN, SELECT_ALL_FLOORS, SELECT_ALL_GRANTS, SELECT_ALL_JOBS, SELECT_ALL_OWNED, SELECT_ALL_REPLIES, SELECT_ALL_TIMED, SELECT_ALL_TIMES}
 use Rattle.fax_schema.specs.Schema.{calls_tree, down_tree, floors_tree, grants_tree, holds_tree, jobs_tree, meta_tree, replies_tree, times_tree}
 use Rattle.fax_tables.specs.Grant.{grant_shown}
 use Rattle.fax_tables.specs.Job.{IsLawfulJob, job_shown}
@@ -71,12 +70,12 @@ pub record IsGrantRow (meta : Meta) (held : List Holder) (row : Row) : Type 0 wh
   pub before : grant.number < meta.next_grant
   pub is_held : IsTrue grant.is_open → IsHeld held grant
 
--- both are moments, of a job that is there: where it isn't over, the end is 0
-pub record IsTimesRow (db : Database) (row : Row) : Type 0 where
+-- neither is later than the clock, and they are of a job that is there: where it isn't over, the end is 0
+pub record IsTimesRow (meta : Meta) (db : Database) (row : Row) : Type 0 where
   pub submitted : ℕ
   pub ended : ℕ
   pub is : row ≡ column row 0 ∷ Null ∷ number submitted ∷ number ended ∷ []
-  pub moments : (submitted ≤ last_moment) × (ended ≤ last_moment)
+  pub past : (submitted ≤ meta.clock) × (ended ≤ meta.clock)
   pub job : Row
   pub has_job : Has (db.trees jobs_tree) job
   pub its : column job 0 ≡ column row 0
@@ -87,6 +86,10 @@ pub record IsTimesRow (db : Database) (row : Row) : Type 0 where
 -- a job whose times are there
 abbrev pub IsTimed : Database → Row → Type 0
 IsTimed db row = (times : Row) × Has (db.trees times_tree) times × (column times 0 ≡ column row 0)
+
+-- a grant whose job is there
+abbrev pub IsOwned : Database → Row → Type 0
+IsOwned db row = (job : Row) × Has (db.trees jobs_tree) job × (column job 0 ≡ column row 2)
 
 -- the holder's grant is there, open, and its own; the job is there, dials its number, and fits the grant
 pub record IsRightHolder (db : Database) (h : Holder) : Type 0 where
@@ -164,23 +167,23 @@ HasRequestNumber row at = (number : ℕ) × HasNumber row at number × (1 ≤ nu
 abbrev pub HasStatus : Row → ℕ → Type 0
 HasStatus row at = (status : ℕ) × HasNumber row at status × IsKeptStatus status
 
--- a moment
-abbrev pub HasMoment : Row → ℕ → Type 0
-HasMoment row at = (moment : ℕ) × HasNumber row at moment × (moment ≤ last_moment)
+-- a moment that isn't later than the clock
+abbrev pub HasPast : Meta → Row → ℕ → Type 0
+HasPast meta row at = (moment : ℕ) × HasNumber row at moment × (moment ≤ meta.clock)
 
 abbrev pub HasInteger : Row → ℕ → Type 0
 HasInteger row at = (n : ℤ) × HasValue row at (Int n)
 
 -- the moment of an end and the phase of its job: where that isn't over, the end is 0
-pub record ShowsEnd (row : Row) : Type 0 where
-  pub ended : HasMoment row 2
+pub record ShowsEnd (meta : Meta) (row : Row) : Type 0 where
+  pub ended : HasPast meta row 2
   pub phase : ℕ
   pub in_phase : HasNumber row 3 phase
   pub not_over : phase < 3 → HasNumber row 2 0
 
-pub record ShowsTimes (row : Row) : Type 0 where
-  pub submitted : HasMoment row 1
-  pub ended : ShowsEnd row
+pub record ShowsTimes (meta : Meta) (row : Row) : Type 0 where
+  pub submitted : HasPast meta row 1
+  pub ended : ShowsEnd meta row
 
 pub record ShowsReply (row : Row) : Type 0 where
   pub client : ShowsName row 0
@@ -214,6 +217,7 @@ table_of Jobs = table.Jobs
 table_of Grants = table.Grants
 table_of Times = table.Times
 table_of Timed = table.Times
+table_of Owned = table.Grants
 table_of Down = table.Down
 table_of Replies = table.Replies
 table_of Floors = table.Floors
@@ -225,6 +229,7 @@ text_of Jobs = SELECT_ALL_JOBS.now
 text_of Grants = SELECT_ALL_GRANTS.now
 text_of Times = SELECT_ALL_TIMES.now
 text_of Timed = SELECT_ALL_TIMED.now
+text_of Owned = SELECT_ALL_OWNED.now
 text_of Down = SELECT_ALL_DOWN.now
 text_of Replies = SELECT_ALL_REPLIES.now
 text_of Floors = SELECT_ALL_FLOORS.now
@@ -235,8 +240,9 @@ module _ (meta : Meta) (held : List Holder) where
   abbrev pub Shows : Query → Row → Type 0
   Shows Jobs row = ShowsJob meta held row
   Shows Grants row = ShowsGrant meta held row
-  Shows Times row = ShowsTimes row
+  Shows Times row = ShowsTimes meta row
   Shows Timed row = HasInteger row 1
+  Shows Owned row = HasInteger row 1
   Shows Down row = ShowsName row 0
   Shows Replies row = ShowsReply row
   Shows Floors row = ShowsFloor row
@@ -246,8 +252,9 @@ module _ (meta : Meta) (held : List Holder) where
   abbrev pub IsWholeTable : Database → Query → Type 0
   IsWholeTable db Jobs = Each db jobs_tree (IsJobRow meta held)
   IsWholeTable db Grants = Each db grants_tree (IsGrantRow meta held)
-  IsWholeTable db Times = Each db times_tree (IsTimesRow db)
+  IsWholeTable db Times = Each db times_tree (IsTimesRow meta db)
   IsWholeTable db Timed = Each db jobs_tree (IsTimed db)
+  IsWholeTable db Owned = Each db grants_tree (IsOwned db)
   IsWholeTable db Down = Each db down_tree IsDownRow
   IsWholeTable db Replies = Each db replies_tree IsReplyRow
   IsWholeTable db Floors = Each db floors_tree IsFloorRow

@@ -1,4 +1,4 @@
-//! Whether the rows of a database are those of a sound queue.
+//! Whether the rows of a database are those of a consistent queue.
 
 ghost use Rattle.std.specs.Prelude.{◌≡◌};
 ghost use Rattle.std.specs.Bool.{Decides};
@@ -19,8 +19,8 @@ use fax_tables::{Meta, StoreFault, is_version};
 use sqlite::{Alter, Connection, Row, params};
 use std::alloc::Global;
 
-/// The first row that keeps the rows of a database from being those of a sound queue with its kept replies,
-/// or none where they are. Each table is read once, a row at a time, and nothing is written. The memory that
+/// The first row that keeps the rows of a database from being those of a consistent queue with its kept replies: a sound
+/// one, where each grant's job is there and no submission or end is later than the clock. None where they are. Each table is read once, a row at a time, and nothing is written. The memory that
 /// it takes grows with the modems that hold grants, not with the rows.
 ///
 /// The database has the tables of a queue, as [`fax_store::Store::adopt`] leaves them.

@@ -94,7 +94,9 @@ fn next_step<S: Alter>(
 /// The rowid that a row is shown with.
 fn rowid_in(query: Query, row: &Row) -> i64 {
     match query {
-        Query::Jobs | Query::Grants | Query::Times | Query::Timed => number_in(row, 0),
+        Query::Jobs | Query::Grants | Query::Times | Query::Timed | Query::Owned => {
+            number_in(row, 0)
+        }
         _ => number_in(row, row.column_count().saturating_sub(1)),
     }
 }

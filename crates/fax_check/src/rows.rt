@@ -3,14 +3,13 @@
 ghost use Rattle.std.specs.Prelude.{◌≡◌, IfErr, IfOk};
 ghost use Rattle.std.specs.Bool.{Decides};
 ghost use Rattle.sqlite.specs.declared.types.Value.TheVariants.{Int, Text};
-ghost use Rattle.fax_check.specs.Whole.{HasInteger, HasMoment, HasRequestNumber, HasStatus, Shows, ShowsCall, ShowsEnd, ShowsFloor, ShowsGrant, ShowsJob, ShowsName, ShowsReply, ShowsTimes, dialing, has_holder, holds, is_held, stands};
+ghost use Rattle.fax_check.specs.Whole.{HasInteger, HasPast, HasRequestNumber, HasStatus, Shows, ShowsCall, ShowsEnd, ShowsFloor, ShowsGrant, ShowsJob, ShowsName, ShowsReply, ShowsTimes, dialing, has_holder, holds, is_held, stands};
 ghost use Rattle.fax_tables.specs.Row.{HasNumber, HasValue};
 
 use crate::holders::Holder;
 use crate::reading::known;
 use crate::tables::Query;
 use fax_core::{Grant, fits};
-use fax_job::limits::LAST_MOMENT;
 use fax_job::{Job, Phase, is_name};
 use fax_tables::{Meta, StoreFault, grant_in, job_in};
 use sqlite::Row;
@@ -43,8 +42,8 @@ pub(crate) fn shows(
     match query {
         Query::Jobs => shows_job(alloc, meta, held, row),
         Query::Grants => shows_grant(alloc, meta, held, row),
-        Query::Times => Ok(shows_times(row)),
-        Query::Timed => Ok(has_integer(row, 1)),
+        Query::Times => Ok(shows_times(meta, row)),
+        Query::Timed | Query::Owned => Ok(has_integer(row, 1)),
         Query::Down => Ok(has_name(row, 0)),
         Query::Replies => Ok(shows_reply(row)),
         Query::Floors => Ok(shows_floor(row)),
@@ -120,18 +119,18 @@ fn holds(holder: &Holder, grant: &Grant) -> bool
         && holder.grant == grant.number
 }
 
-fn shows_times(row: &Row) -> bool
-    ensures { Decides result (ShowsTimes row.now) }
+fn shows_times(meta: &Meta, row: &Row) -> bool
+    ensures { Decides result (ShowsTimes meta.now row.now) }
 {
-    has_moment(row, 1) && shows_end(row)
+    is_past(meta, row, 1) && shows_end(meta, row)
 }
 
 /// Whether the row has the moment of an end, which is 0 where the job isn't over, and the phase of the job.
-fn shows_end(row: &Row) -> bool
-    ensures { Decides result (ShowsEnd row.now) }
+fn shows_end(meta: &Meta, row: &Row) -> bool
+    ensures { Decides result (ShowsEnd meta.now row.now) }
 {
     match row.get_ref(3) {
-        Ok(ValueRef::Int(phase)) if phase >= FIRST_OVER => has_moment(row, 2),
+        Ok(ValueRef::Int(phase)) if phase >= FIRST_OVER => is_past(meta, row, 2),
         Ok(ValueRef::Int(phase)) => phase >= 0 && has_number(row, 2, 0),
         _ => false,
     }
@@ -180,12 +179,12 @@ fn has_name(row: &Row, at: usize) -> bool
     }
 }
 
-/// Whether the row has a moment in a column.
-fn has_moment(row: &Row, at: usize) -> bool
-    ensures { Decides result (HasMoment row.now at) }
+/// Whether the row has a moment in a column that isn't later than the clock.
+fn is_past(meta: &Meta, row: &Row, at: usize) -> bool
+    ensures { Decides result (HasPast meta.now row.now at) }
 {
     match row.get_ref(at) {
-        Ok(ValueRef::Int(moment)) => 0 <= moment && moment <= i64::from(LAST_MOMENT),
+        Ok(ValueRef::Int(moment)) => 0 <= moment && moment <= i64::from(meta.clock.seconds()),
         _ => false,
     }
 }

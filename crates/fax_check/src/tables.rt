@@ -20,6 +20,10 @@ const SELECT_ALL_TIMES: &str = "SELECT times.job, times.submitted, times.ended, 
 const SELECT_ALL_TIMED: &str =
     "SELECT jobs.job, times.job FROM jobs LEFT JOIN times ON times.job = jobs.job";
 
+/// The grants, each with the number of its job, which is NULL where there is no such job.
+const SELECT_ALL_OWNED: &str =
+    "SELECT grants.id, jobs.job FROM grants LEFT JOIN jobs ON jobs.job = grants.job";
+
 pub(crate) const SELECT_ALL_HOLDS: &str = "SELECT modem, job, id, rowid FROM holds";
 
 const SELECT_ALL_DOWN: &str = "SELECT modem, rowid FROM down";
@@ -53,6 +57,8 @@ pub(crate) enum Query {
     Times,
     /// The jobs, with the numbers of their times.
     Timed,
+    /// The grants, with the numbers of their jobs.
+    Owned,
     Down,
     Replies,
     Floors,
@@ -60,11 +66,12 @@ pub(crate) enum Query {
 }
 
 /// The queries, in the order in which they are run.
-pub(crate) static PASSED: [Query; 8] = [
+pub(crate) static PASSED: [Query; 9] = [
     Query::Grants,
     Query::Jobs,
     Query::Times,
     Query::Timed,
+    Query::Owned,
     Query::Down,
     Query::Replies,
     Query::Floors,
@@ -107,7 +114,7 @@ impl Query {
     {
         match self {
             Query::Jobs => Table::Jobs,
-            Query::Grants => Table::Grants,
+            Query::Grants | Query::Owned => Table::Grants,
             Query::Times | Query::Timed => Table::Times,
             Query::Down => Table::Down,
             Query::Replies => Table::Replies,
@@ -125,6 +132,7 @@ impl Query {
             Query::Grants => SELECT_ALL_GRANTS,
             Query::Times => SELECT_ALL_TIMES,
             Query::Timed => SELECT_ALL_TIMED,
+            Query::Owned => SELECT_ALL_OWNED,
             Query::Down => SELECT_ALL_DOWN,
             Query::Replies => SELECT_ALL_REPLIES,
             Query::Floors => SELECT_ALL_FLOORS,

@@ -7,12 +7,12 @@ use Rattle.sqlite.specs.Order.{Row, column}
 use Rattle.sqlite.specs.State.{State, HasCleanDisk}
 use Rattle.sqlite.specs.declared.types.Value.{Value}
 use Rattle.sqlite_wal.specs.Recovery.{Image}
+use Rattle.fax_check.proofs.ConsistentLemmas.{empty_consistent}
 use Rattle.fax_check.proofs.NumberLemmas.{sound_stored}
 use Rattle.fax_check.specs.Check.{IsChecked}
 use Rattle.fax_check.specs.Reading.{Tells}
 use Rattle.fax_check.specs.Sound.{IsSound, IsStored}
 use Rattle.fax_check.specs.declared.tables.Flaw.{Flaw}
-use Rattle.fax_core.proofs.StepLemmas.{empty_sound}
 use Rattle.fax_core.specs.Ledger.{Ledger, empty_ledger}
 use Rattle.fax_core.specs.Queue.{Queue, empty_queue}
 use Rattle.fax_files.specs.Database.{IsFound}
@@ -56,7 +56,7 @@ module _ (found now : Database) (ours : IsOurs found) (taken : IsTaken found now
     meta_ordered = subst IsByRowid (sym (taken.meta (inr by.meta))) (meta_by (version_of found.schema) (found.trees meta_tree) (number (version_of found.schema)) ours.version by.meta);
   }
 
-  -- where they mean a sound queue, so do the rows that were found
+  -- where they mean a consistent queue, so do the rows that were found
   found_sound : StandByRowid found now → IsSound now → MeanSound found
   found_sound by sound = (
     sound.0,
@@ -77,7 +77,7 @@ module _ (found now : Database) (ours : IsOurs found) (taken : IsTaken found now
 no_flaw : (opened new : State) (verdict : Option Flaw) → TablesMean opened.now empty_queue empty_ledger → Tells opened new (Ok verdict) IsChecked → HasCleanDisk new → verdict ≡ None
 no_flaw opened new None means it clean = refl
 no_flaw opened new (Some flaw) means it clean =
-    let sound : IsSound opened.now = (empty_queue, empty_ledger, means, empty_sound) in
+    let sound : IsSound opened.now = (empty_queue, empty_ledger, means, empty_consistent) in
     absurd (it.tells (sound_stored opened.now sound) clean sound)
 
 -- of a queue's rows what is told is true

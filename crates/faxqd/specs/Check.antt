@@ -4,11 +4,11 @@ use Rattle.std.specs.Fmt.{decimal}
 use Rattle.sqlite.specs.Effect.{Database, IsDatabase}
 use Rattle.sqlite.specs.State.{State, HasCleanDisk}
 use Rattle.sqlite_wal.specs.Recovery.{Image}
+use Rattle.fax_check.specs.Consistent.{Consistent}
 use Rattle.fax_check.specs.Whole.{table_name}
 use Rattle.fax_check.specs.declared.tables.Flaw.{Flaw}
 use Rattle.fax_core.specs.Ledger.{Ledger}
 use Rattle.fax_core.specs.Queue.{Queue}
-use Rattle.fax_core.specs.Sound.{Sound}
 use Rattle.fax_ending.specs.Ending.{no_database, write_failed}
 use Rattle.fax_files.specs.Database.{AreHeld}
 use Rattle.fax_files.specs.FaultLine.{open_line}
@@ -25,9 +25,9 @@ use Rattle.fax_text.specs.declared.status.Status.TheVariants.{Success, Fault, Us
 
 -- ---- what is told
 
--- the rows that were found mean a sound queue
+-- the rows that were found mean a consistent queue
 abbrev pub MeanSound : Database → Type 0
-MeanSound found = (m : Queue) × (k : Ledger) × RowsMean found m k × Sound m
+MeanSound found = (m : Queue) × (k : Ledger) × RowsMean found m k × Consistent m
 
 -- Rows stand by rowid, as `sqlite` keeps those of every table: those that are checked, and those of jobs, grants and meta as they were found.
 pub record StandByRowid (found now : Database) : Type 0 where
@@ -36,7 +36,7 @@ pub record StandByRowid (found now : Database) : Type 0 where
   pub grants : IsByRowid (found.trees grants_tree)
   pub meta : IsByRowid (found.trees meta_tree)
 
--- where no flaw is told the rows mean a sound queue, and where one is they mean none
+-- where no flaw is told the rows mean a consistent queue, and where one is they mean none
 abbrev pub IsTrueOf : Database → Database → Option Flaw → Type 0
 IsTrueOf found now None = StandByRowid found now → MeanSound found
 IsTrueOf found now (Some flaw) = ¬ MeanSound found

@@ -1,4 +1,4 @@
-//! `faxqd check`: tells whether the rows of a file are those of a sound queue.
+//! `faxqd check`: tells whether the rows of a file are those of a consistent queue.
 ghost use Rattle.std.specs.Prelude.{◌≡◌, false, MatchOption};
 ghost use Rattle.sqlite.specs.Files.{file_state};
 ghost use Rattle.sqlite_wal.specs.Files.{image_at};
