@@ -15,7 +15,6 @@ use Rattle.sqlite_rules.proofs.TableLemmas.{int_is}
 use Rattle.sqlite_sql.specs.Term.{Term, col, eval_all}
 use Rattle.sqlite_trees.specs.Tree.{Trees}
 use Rattle.fax_check.specs.Check.{IsTableChecked, Told, flaw_in}
-use Rattle.fax_check.specs.Pass.{IsPassed}
 use Rattle.fax_check.specs.Whole.{Each, Holder, IsCallRow, IsDownRow, IsFloorRow, IsGrantRow, IsJobRow, IsOwned, IsReplyRow, IsTimed, IsTimesRow, HasInteger, Shows, ShowsCall, ShowsFloor, ShowsGrant, ShowsJob, ShowsName, ShowsReply, ShowsTimes, text_of}
 use Rattle.fax_check.specs.Sound.{IsStored}
 use Rattle.fax_check.specs.declared.tables.Query.{Query}
@@ -264,6 +263,10 @@ told : (query : Query) (A W : Type 0) → (A → W) → (W → A) → (o : Optio
 told query A W to from None h = to h
 told query A W to from (Some id) h = λ whole. h (from whole)
 
+-- each of these rows is as it has to be, or it is told that one isn't
+abbrev AreTold : (Row → Type 0) → List Row → Option ℤ → Type 0
+AreTold P rows found = MatchOption found (All P rows) (λ _. ¬ All P rows)
+
 module _ (old new : State) (db : Database) (stored : IsStored db) (now : old.now ≡ db) (meta : Meta) (held : List Holder) (rows : List Row) where
   module _ (sql : List ℕ) (tree : ℕ) (project : List Term) (names : List (List ℕ)) (selects : Selects sql tree [] project names) (plain : (trees : Trees) → overlay trees [] tree ≡ trees tree)
       (P Q : Row → Type 0) (is : (r : Row) → Has (db.trees tree) r → P (show tree [] project [] r) → Q r) (shows : (r : Row) → Q r → P (show tree [] project [] r)) (shown : Shown sql [] old new rows) where
@@ -273,11 +276,11 @@ module _ (old new : State) (db : Database) (stored : IsStored db) (now : old.now
     all_is : Each db tree Q → All P rows
     all_is each = bridge.all_each sql tree project names selects plain old new db stored.schema_is now rows shown P (λ r has. shows r (each r has))
 
-    checked : (query : Query) (found : Option ℤ) → IsPassed P rows found → Told (Each db tree Q) (flaw_in query found)
+    checked : (query : Query) (found : Option ℤ) → AreTold P rows found → Told (Each db tree Q) (flaw_in query found)
     checked query found t = told query (All P rows) (Each db tree Q) each_is all_is found t
 
   -- what a query checks is told to be whole just where it is
-  pub table_checked : (query : Query) (found : Option ℤ) → Shown (text_of query) [] old new rows → IsPassed (Shows meta held query) rows found
+  pub table_checked : (query : Query) (found : Option ℤ) → Shown (text_of query) [] old new rows → AreTold (Shows meta held query) rows found
       → IsTableChecked meta held query db (flaw_in query found)
   table_checked Jobs found shown t =
       checked (text_of Jobs) jobs_tree job_project job_names select_all_jobs (λ trees. refl) (Shows meta held Jobs) (IsJobRow meta held) (job_is db stored meta held) (job_shows db stored meta held) shown Jobs found t

@@ -1,13 +1,15 @@
 //! A pass over the rows of a query, one at a time.
 
-ghost use Rattle.std.specs.Prelude.{◌≡◌, ℕ, List, [], IfOk};
+ghost use Rattle.std.specs.Prelude.{◌≡◌, ℕ, ℤ, List, [], IfOk};
 ghost use Rattle.sqlite.specs.Given.{HasGiven};
 ghost use Rattle.sqlite.specs.Held.{state};
 ghost use Rattle.sqlite.specs.Order.{Row as Values};
 ghost use Rattle.sqlite.specs.State.{HasCleanDisk};
-ghost use Rattle.fax_check.specs.Pass.{AreRead, GoesOn, IsPassed, IsStep};
+ghost use Rattle.sqlite.specs.declared.types.Value.TheVariants.{Int};
+ghost use Rattle.fax_check.specs.Pass.{AreRead, GoesOn, IsPassed, IsStep, Names, rowid_at};
 ghost use Rattle.fax_check.specs.Reading.{Tells};
 ghost use Rattle.fax_check.specs.Whole.{Shows, text_of};
+ghost use Rattle.fax_tables.specs.Row.{HasValue};
 
 use crate::holders::Holder;
 use crate::rows::shows;
@@ -37,7 +39,7 @@ pub(crate) fn pass<S: Alter>(
     held: &[Holder],
 ) -> Result<Option<i64>, StoreFault>
     ensures { Tells (state S.Store conn.old) (state S.Store conn.new) result (λ db found. (rows : List Values)
-        × AreRead S.Store (text_of query) db conn.new rows × IsPassed (Shows meta.now held.now query) rows found) }
+        × AreRead S.Store (text_of query) db conn.new rows × IsPassed (Shows meta.now held.now query) (Names query) rows found) }
 {
     let mut rows = conn.query(query.text(), &[])?;
     count(alloc, &mut rows, query, meta, held)
@@ -56,7 +58,7 @@ fn count<S: Alter>(
     ensures counted { (sql : List ℕ) → HasGiven S.Store sql [] rows.old.conn.now [] → HasCleanDisk
         (state S.Store rows.new.conn.now) → IfOk result (λ found. (given : List Values) × AreRead S.Store sql
         (state S.Store rows.new.conn.now).now rows.new.conn.now given × IsPassed (Shows meta.now held.now query)
-        given found) }
+        (Names query) given found) }
 {
     let mut flaw = None;
     for _ in 0..u64::MAX {
@@ -80,8 +82,8 @@ fn next_step<S: Alter>(
     ensures same_reference { rows.new.conn.ghost_name ≡ rows.old.conn.ghost_name }
     ensures leaves { GoesOn S.Store rows.old.conn.now rows.new.conn.now result }
     ensures steps { (sql : List ℕ) (given : List Values) → HasGiven S.Store sql [] rows.old.conn.now given
-        → HasCleanDisk (state S.Store rows.new.conn.now) → IfOk result (IsStep S.Store (Shows meta.now held.now query) sql
-        given rows.old.conn.now rows.new.conn.now) }
+        → HasCleanDisk (state S.Store rows.new.conn.now) → IfOk result (IsStep S.Store (Shows meta.now held.now query)
+        (Names query) sql given rows.old.conn.now rows.new.conn.now) }
 {
     rows.advance()?;
     match rows.get() {
@@ -92,17 +94,23 @@ fn next_step<S: Alter>(
 }
 
 /// The rowid that a row is shown with.
-fn rowid_in(query: Query, row: &Row) -> i64 {
+fn rowid_in(query: Query, row: &Row) -> i64
+    ensures { (n : ℤ) → HasValue row.now (rowid_at query row.now) (Int n) → result ≡ n }
+{
     match query {
         Query::Jobs | Query::Grants | Query::Times | Query::Timed | Query::Owned => {
             number_in(row, 0)
         }
-        _ => number_in(row, row.column_count().saturating_sub(1)),
+        Query::Down | Query::Replies | Query::Floors | Query::Calls => {
+            number_in(row, row.column_count().saturating_sub(1))
+        }
     }
 }
 
 /// The number in a column, or 0.
-pub(crate) fn number_in(row: &Row, at: usize) -> i64 {
+pub(crate) fn number_in(row: &Row, at: usize) -> i64
+    ensures { (n : ℤ) → HasValue row.now at (Int n) → result ≡ n }
+{
     match row.get_ref(at) {
         Ok(ValueRef::Int(number)) => number,
         _ => 0,

@@ -1,8 +1,9 @@
-use Rattle.std.proofs.Common.{◌≡◌, ℕ, List, [], All, MatchOption}
+use Rattle.std.proofs.Common.{◌≡◌, ℕ, List, []}
 use Rattle.sqlite.specs.Given.{HasGiven}
 use Rattle.sqlite.specs.Held.{state}
 use Rattle.sqlite.specs.Order.{Row}
 use Rattle.sqlite.specs.State.{HasCleanDisk}
+use Rattle.fax_check.specs.Pass.{IsPassed, Names}
 use Rattle.fax_check.specs.Whole.{Shows}
 use Rattle.fax_check.proofs.TellsLemmas.{Passed}
 use Rattle.fax_check.proofs.pass.count.Given as goal
@@ -13,5 +14,5 @@ invariant-loop g l = record {
   same_reference : l.rows.conn.ghost_name ≡ l.initial.rows.conn.ghost_name;
   passed : Passed g.S.Store l.counter l.initial.rows.conn.now l.rows.conn.now;
   counted : (sql : List ℕ) → HasGiven g.S.Store sql [] l.initial.rows.conn.now [] → HasCleanDisk (state g.S.Store l.rows.conn.now)
-      → (given : List Row) × HasGiven g.S.Store sql [] l.rows.conn.now given × MatchOption l.flaw (All (Shows l.meta l.held l.query) given) (λ _. ¬ All (Shows l.meta l.held l.query) given);
+      → (given : List Row) × HasGiven g.S.Store sql [] l.rows.conn.now given × IsPassed (Shows l.meta l.held l.query) (Names l.query) given l.flaw;
 }

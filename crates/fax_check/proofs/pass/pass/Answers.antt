@@ -3,7 +3,7 @@ use Rattle.sqlite.specs.Given.{HasBegun}
 use Rattle.sqlite.specs.Order.{Row}
 use Rattle.sqlite.specs.Held.{state}
 use Rattle.sqlite.specs.State.{CommitsShowing, FailsToQuery, HasCleanDisk, Survives}
-use Rattle.fax_check.specs.Pass.{AreRead, IsPassed}
+use Rattle.fax_check.specs.Pass.{AreRead, IsPassed, Names}
 use Rattle.fax_check.specs.Whole.{Shows, text_of}
 use Rattle.fax_check.specs.Reading.{Tells}
 use Rattle.fax_check.proofs.TellsLemmas.{pass_tells, unshown_tells}
@@ -26,8 +26,9 @@ returns g c =
     let new = c.count.new.rows.conn.now in
     let sql : c.text.result.now ≡ text_of c.args.query = c.text.ensures in
     let P = Shows c.args.meta.now c.args.held.now c.args.query in
-    let told : Tells (state g.S.Store old) (state g.S.Store new) c.count.result (λ db found. (rows : List Row) × AreRead g.S.Store (text_of c.args.query) db new rows × IsPassed P rows found) =
-    pass_tells g.S.Store old begun new (text_of c.args.query) c.count.result (IsPassed P) (is_query c.args.query) (subst (λ t. Survives (state g.S.Store old) (state g.S.Store begun) (CommitsShowing t [] (state g.S.Store old))) sql c.in_ok-rows.ensures.survives)
+    let N = Names c.args.query in
+    let told : Tells (state g.S.Store old) (state g.S.Store new) c.count.result (λ db found. (rows : List Row) × AreRead g.S.Store (text_of c.args.query) db new rows × IsPassed P N rows found) =
+    pass_tells g.S.Store old begun new (text_of c.args.query) c.count.result (IsPassed P N) (is_query c.args.query) (subst (λ t. Survives (state g.S.Store old) (state g.S.Store begun) (CommitsShowing t [] (state g.S.Store old))) sql c.in_ok-rows.ensures.survives)
     (subst (λ t. HasCleanDisk (state g.S.Store begun) → HasBegun g.S.Store t [] old begun) sql c.in_ok-rows.ensures.begun) c.count.ensures.leaves c.count.ensures.counted in
     let same : new ≡ c.conn-2-1.given.0 = search rules in
-    subst (λ x. Tells (state g.S.Store old) (state g.S.Store x) c.count.result (λ db found. (rows : List Row) × AreRead g.S.Store (text_of c.args.query) db x rows × IsPassed P rows found)) same told
+    subst (λ x. Tells (state g.S.Store old) (state g.S.Store x) c.count.result (λ db found. (rows : List Row) × AreRead g.S.Store (text_of c.args.query) db x rows × IsPassed P N rows found)) same told
