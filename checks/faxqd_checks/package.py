@@ -229,13 +229,14 @@ def build(folder, version):
 class Root:
     """A throwaway root of Debian's own packages, with a network of its own: the unit's address may be in use here."""
 
-    def __init__(self, place):
+    def __init__(self, place, *more):
         self.place = place
         self.network = subprocess.Popen(["unshare", "--net", "sleep", "100000"])
         while os.stat(f"/proc/{self.network.pid}/ns/net").st_ino == os.stat("/proc/self/ns/net").st_ino:
             time.sleep(0.01)
         done("nsenter", "-t", self.network.pid, "-n", "ip", "link", "set", "lo", "up")
-        done("mmdebstrap", "--variant=minbase", "--include=adduser,curl,python3,libgcc-s1", "bookworm", place)
+        done("mmdebstrap", "--variant=minbase", f"--include={','.join(('adduser', 'curl', 'python3', 'libgcc-s1', *more))}",
+             "bookworm", place)
         (place / "usr/sbin/policy-rc.d").write_text("#!/bin/sh\nexit 101\n")  # there is no systemd that could start anything
         (place / "usr/sbin/policy-rc.d").chmod(0o755)
 
@@ -260,10 +261,10 @@ class Root:
     def path(self, name):
         return self.place / name.lstrip("/")
 
-    def unit(self):
-        """The lines of the service's unit, each name with its values."""
+    def unit(self, name="faxqd"):
+        """The lines of a service's unit, each name with its values."""
         values = {}
-        for line in self.path("/lib/systemd/system/faxqd.service").read_text().replace("\\\n", " ").split("\n"):
+        for line in self.path(f"/lib/systemd/system/{name}.service").read_text().replace("\\\n", " ").split("\n"):
             name, equals, value = line.partition("=")
             if equals and not line.startswith("#"):
                 values.setdefault(name, []).append(value)
@@ -391,3 +392,71 @@ def debian(folder):
         is_removed(root, two)
         left = dangling(root) - before
         expect(not left, f"after a purge links lead nowhere: {sorted(left)}")
+
+
+# ---- the desk's package
+
+@look
+def desk_package(folder):
+    """The desk's package has each of its modules once, and its unit has no fault."""
+    wants("dpkg-deb", "systemd-analyze")
+    done(TOP / "packaging/build-desk", folder / "out", env={**os.environ, "VERSION": "1.0"})
+    done("dpkg-deb", "--raw-extract", folder / "out/faxqd-desk_1.0_all.deb", folder / "root")
+    names = {file.relative_to(TOP / "desk").as_posix() for file in (TOP / "desk/faxdesk").glob("**/*.*") if file.suffix != ".pyc"}
+    there = {file.relative_to(folder / "root/usr/lib/faxqd").as_posix() for file in (folder / "root/usr/lib/faxqd").glob("**/*.*")}
+    expect_same(there | {"faxdesk/__init__.py", "faxdesk/client.py"}, names, "the modules of the package and of faxq")
+    for target in pathlib.Path("/lib/systemd/system").glob("*.target"):
+        shutil.copy(target, folder / "root/lib/systemd/system")
+    (folder / "root/usr/bin").mkdir()
+    (folder / "root/usr/bin/python3").touch(mode=0o755)
+    ran = run("systemd-analyze", "verify", "--man=no", f"--root={folder / 'root'}", "faxqd-desk.service")
+    expect(ran.returncode == 0 and not ran.stderr, f"of faxqd-desk.service it says {ran.stderr}")
+
+
+DESK_NEEDS = ("python3-flask", "python3-waitress", "python3-pil", "ghostscript", "libtiff-tools", "bubblewrap", "paps",
+              "fonts-dejavu-core")
+
+
+@check
+def desk(folder):
+    """Both packages are installed in a fresh Debian, and a PDF that is uploaded to the desk, started by its unit's own command line
+    as its user, becomes a job; the documents outlast the package until it is purged."""
+    wants("dpkg-deb", "lintian", "mmdebstrap", "objdump", "ip", "bwrap")
+    folder.chmod(0o755)
+    done(TOP / "packaging/build-desk", folder, env={**os.environ, "VERSION": "1.0"})
+    package = folder / "faxqd-desk_1.0_all.deb"
+    ran = run("lintian", "--allow-root", "--fail-on", "error", package)
+    expect(ran.returncode == 0, f"lintian says {ran.stdout}")
+    with Root(folder / "root", *DESK_NEEDS) as root:
+        root.install(build(folder, "1.0"))
+        root.install(package)
+        with root.serving(), desk_serving(root):
+            root.path("/tmp/report.ps").write_text("%!PS\nshowpage showpage\n")
+            root.does("curl", "--silent", "--fail", "-H", "X-Remote-User: anna", "-F", "token=abcdefgh", "-F", "number=5550111", "-F",
+                      "file=@/tmp/report.ps", "http://127.0.0.1:4560/faxes")
+            within("its job", lambda: "0 of 2 pages" in run(*root.inside("faxq", "--client", "x", "status", "1")).stdout)
+        document, = root.path("/var/lib/faxqd-desk/documents").iterdir()
+        group = int(root.does("id", "-g", "faxqd-desk"))
+        expect((document.stat().st_gid, document.stat().st_mode & 0o777) == (group, 0o640), f"the document is of {document.stat()}")
+        root.does("dpkg", "--remove", "faxqd-desk")
+        expect(document.exists(), "the documents are gone with the program")
+        root.does("dpkg", "--purge", "faxqd-desk")
+        expect(not root.path("/var/lib/faxqd-desk").exists(), "the documents are there after a purge")
+
+
+@contextlib.contextmanager
+def desk_serving(root):
+    """The desk, by its unit's command line and user. A root of its own takes the place of chroot, in which no sandbox could be made."""
+    unit = root.unit("faxqd-desk")
+    user, group = (root.does("id", option, unit["User"][0]).strip() for option in ("-u", "-g"))
+    own = ["nsenter", "-t", root.network.pid, "-n", "bwrap", "--bind", root.place, "/", "--proc", "/proc", "--dev", "/dev", "--cap-add", "ALL"]
+    start = ["setpriv", f"--reuid={user}", f"--regid={group}", "--clear-groups", "env", "-i", "PATH=/usr/bin:/bin", *unit["Environment"][0].split()]
+    words = [str(word) for word in (*own, *start, *unit["ExecStart"][0].split())]
+    process = subprocess.Popen(words, stdin=subprocess.DEVNULL, stdout=subprocess.PIPE, stderr=subprocess.PIPE, text=True, cwd="/")
+    try:
+        first = process.stdout.readline()
+        expect(first == "faxdesk: listening at 127.0.0.1:4560\n", f"the desk says {first!r} and {process.poll() and process.stderr.read()!r}")
+        yield
+    finally:
+        process.kill()
+        process.wait()

@@ -136,7 +136,7 @@ class Documents:
         inputs = [word for place, file in enumerate(files) for word in ("--ro-bind", str(file), f"/in/{place}")]
         system = [word for place in SEEN for word in ("--ro-bind-try", place, place)]
         links = [word for name in ("bin", "lib", "lib64") for word in ("--symlink", f"usr/{name}", f"/{name}")]
-        places = ["--proc", "/proc", "--dev", "/dev", "--tmpfs", "/tmp", "--ro-bind", str(HERE / "picture.py"), "/picture.py"]
+        places = ["--dev", "/dev", "--tmpfs", "/tmp", "--ro-bind", str(HERE / "picture.py"), "/picture.py"]
         own = ["--bind", str(room), "/work", "--chdir", "/work"]
         alone = ["--unshare-all", "--die-with-parent", "--new-session", "--clearenv"]
         variables = [word for name, value in VARIABLES.items() for word in ("--setenv", name, value)]
