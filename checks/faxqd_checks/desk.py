@@ -587,6 +587,96 @@ def monitored(folder):
         desk.settled(3, "submitted")
 
 
+class Described:
+    """A client that is made of the desk's OpenAPI description: it has an operation for each, and takes no other reply than those that
+    are described."""
+
+    def __init__(self, desk, user="anna"):
+        self.desk, self.user = desk, user
+        self.all = json.loads((TOP / "desk/faxdesk/static/openapi.json").read_text())
+        self.operations = {operation["operationId"]: (path, method, operation) for path, methods in self.all["paths"].items()
+                           for method, operation in methods.items() if method != "parameters"}
+
+    def found(self, value):
+        """What a reference leads to."""
+        if "$ref" not in value:
+            return value
+        for part in value["$ref"].removeprefix("#/").split("/"):
+            value = value[part] if part in value else self.all[part]
+        return value
+
+    def wrong(self, schema, value, place="it"):
+        """What is wrong with a value, or nothing."""
+        schema = self.found(schema)
+        if value is None and schema.get("nullable"):
+            return None
+        kinds = {"object": dict, "array": list, "integer": int, "string": str}
+        if type(value) is not kinds[schema["type"]] or value not in schema.get("enum", [value]):
+            return f"{place} is {value!r}"
+        if schema["type"] == "array":
+            return next((wrong for one in value if (wrong := self.wrong(schema["items"], one, place))), None)
+        if schema["type"] != "object":
+            return None
+        names = schema["properties"]
+        missing = set(schema["required"]) - set(value) or (set(value) - set(names) if schema.get("additionalProperties") is False else set())
+        return f"{place} has {missing} or lacks it" if missing else next(
+            (wrong for name in value if (wrong := self.wrong(names[name], value[name], f"{place}.{name}"))), None)
+
+    def call(self, name, number=None, form=None):
+        """The status and the value of an operation, which have to be described."""
+        path, method, operation = self.operations[name]
+        if form is not None:
+            kinds = operation["requestBody"]["content"]["multipart/form-data"]["schema"]
+            expect(set(form) <= set(kinds["properties"]) and set(kinds["required"]) <= set(form), f"{name}: {form} isn't described")
+            data = form.pop("file")
+            status, value = self.desk.submit(data, self.user, **form)
+        else:
+            status, value = self.desk.ask(method.upper(), path.replace("{number}", str(number)), user=self.user)
+        reply = self.found(operation["responses"].get(str(status), {}))
+        expect(reply, f"{name} is answered {status}, which isn't described: {value}")
+        wrong = self.wrong(reply["content"]["application/json"]["schema"], value)
+        expect(not wrong, f"{name} is answered {status}, and {wrong}")
+        return status, value
+
+
+@check
+def described(folder):
+    """The OpenAPI description is what the desk does: a client that is made of it submits, lists, shows, suspends, resumes, kills and
+    sends again, and meets no other reply."""
+    with office(folder) as (server, desk):
+        client = Described(desk)
+        expect_same(client.call("submit", form={"token": "short", "number": "1", "file": TEXT})[0], 400, "a short token")
+        status, fax = client.call("submit", form={"token": "a-long-one", "number": "5550111", "file": TEXT, "resolution": "fine"})
+        expect_same(status, 201, "the upload")
+        expect_same(client.call("submit", form={"token": "a-long-one", "number": "5550112", "file": TEXT})[0], 409, "another fax")
+        within("its job", lambda: client.call("show", fax["id"])[1]["state"] == "ready")
+        for name, state in ("suspend", "suspended"), ("resume", "ready"), ("kill", "failed"):
+            expect_same(client.call(name, fax["id"])[0], 202, name)
+            within(state, lambda: client.call("show", fax["id"])[1]["state"] == state)
+        expect_same(client.call("resume", fax["id"])[0], 409, "a fax that failed")
+        expect_same((client.call("again", fax["id"])[0], client.call("again", 99)[0]), (201, 404), "the rest of faxes")
+        expect_same(len(client.call("list")[1]["faxes"]), 2, "the faxes")
+        served = desk.ask("GET", "/static/openapi.json", user=None)
+        expect_same(served[1], client.all, "the description that the desk gives out")
+
+
+@check
+def cover_page(folder):
+    """A cover page is the first page of a fax, with the note of its user; the same form again is the same fax."""
+    (folder / "cover.txt").write_text("To {number}\nFrom {owner}: {name}\n\n{note}\n")
+    with office(folder, cover=str(folder / "cover.txt")) as (server, desk):
+        form = {"token": secrets.token_urlsafe(16), "cover": "on", "note": "Grüße {x}\n"}
+        fax = desk.settled([desk.submit(TWO_PAGES, **form)[1]["id"] for _ in range(2)][1], "submitted")
+        expect_same((fax["id"], fax["pages"]), (1, 3), "the fax and its pages")
+        plain = desk.settled(desk.submit(TWO_PAGES)[1]["id"], "submitted")
+        first, second = (desk.ask("GET", f"/faxes/{number}/pages/{page}")[1] for number, page in ((1, 2), (plain["id"], 1)))
+        expect(first == second, "the document doesn't follow the cover page")
+        expect_same(desk.submit(TWO_PAGES, cover="on", note="x" * 2001)[0], 400, "a long note")
+    (folder / "cover.txt").write_text("{sender}")
+    ran = subprocess.run([PYTHON, "-B", "-m", "faxdesk", folder / "desk.toml"], cwd=TOP / "desk", capture_output=True, text=True)
+    expect(ran.returncode == 2 and "cover: 'sender'" in ran.stderr, f"of a wrong template it says {ran}")
+
+
 @check
 def settings(folder):
     """A fault in the settings is one line that names it."""

@@ -110,12 +110,16 @@ class Documents:
         return self.keep(data), pages
 
     def printed(self, room, files, resolution):
-        """Prints files into a TIFF within a folder."""
-        pages = [self.page_of(room, files, place) for place in range(len(files))]
-        self.run(room, files, "gs", "-q", "-dSAFER", "-dBATCH", "-dNOPAUSE", "-sDEVICE=tiffg3", f"-r{DOTS}x{LINES[resolution]}",
-                 f"-sPAPERSIZE={self.settings.paper}", "-dFIXEDMEDIA", "-dFitPage", f"-dLastPage={self.settings.pages + 1}",
-                 "-sOutputFile=/work/fax", *pages)
-        return room / "fax"
+        """Prints files into a TIFF within a folder, each by itself, so that none changes how the next is printed."""
+        made = [f"{place}.tif" for place in range(len(files))]
+        for place, name in enumerate(made):
+            self.run(room, files, "gs", "-q", "-dSAFER", "-dBATCH", "-dNOPAUSE", "-sDEVICE=tiffg3", f"-r{DOTS}x{LINES[resolution]}",
+                     f"-sPAPERSIZE={self.settings.paper}", "-dFIXEDMEDIA", "-dFitPage", f"-dLastPage={self.settings.pages + 1}",
+                     f"-sOutputFile={name}", self.page_of(room, files, place))
+            if not (room / name).exists() or not (room / name).stat().st_size:
+                raise Unusable("A file has no page." if len(files) > 1 else "The file has no page.")
+        self.run(room, files, "tiffcp", *made, "fax.tif")
+        return room / "fax.tif"
 
     def page_of(self, room, files, place):
         """Makes what ghostscript reads of one of these files. Returns where that is in the sandbox."""

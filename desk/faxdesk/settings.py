@@ -40,6 +40,8 @@ class Settings:
     notice: tuple = ()
     # The desk's address as people have it, for links in mails.
     link: str = ""
+    # A file with the text of a cover page, in which {number}, {name}, {owner} and {note} are replaced; none without it.
+    cover: str = ""
     # Seconds between two looks at the queue.
     pause: float = 2.0
 
@@ -51,6 +53,12 @@ class Settings:
         """Where the desk listens: host and port."""
         host, _, port = self.listen.rpartition(":")
         return host.strip("[]"), int(port)
+
+    def cover_page(self, number, name, owner, note):
+        """The text of a fax's cover page, or none without a template."""
+        if not self.cover:
+            return None
+        return pathlib.Path(self.cover).read_text().format(number=number, name=name, owner=owner, note=note)
 
     def address_of(self, user):
         """The mail address of a user."""
@@ -88,6 +96,10 @@ def read_settings(file):
     settings = Settings(**values)
     if settings.paper not in PAPERS:
         raise Fault(f"{file}: paper is none of {', '.join(PAPERS)}", 2)
+    try:
+        settings.cover_page("", "", "", "")
+    except (OSError, ValueError, LookupError) as fault:
+        raise Fault(f"{file}: cover: {fault}", 2) from None
     try:
         settings.address()
     except ValueError:

@@ -1,5 +1,6 @@
 """The desk's pages, and the same as JSON for programs."""
 import datetime
+import io
 import ipaddress
 import re
 import secrets
@@ -15,6 +16,7 @@ from .sentences import sentence, shown
 MOST_NAME = 200  # bytes of a fax's name, as a job tag has them
 MORE = 10**6  # bytes of a form beside its files
 MOST_FILES = 20
+MOST_NOTE = 2000  # characters of the note on a cover page
 ACTIONS = {"suspend": (2, 3, 4, 5, 6), "resume": (1,), "kill": (1, 2, 3, 4, 5, 6)}  # by the states of jobs
 
 
@@ -159,7 +161,13 @@ def application(settings, store, documents, clerk):
         if not 1 <= len(files) <= MOST_FILES:
             raise Refused(400, f"The form has 1 to {MOST_FILES} files.")
         names = ", ".join(name_in(file.filename.replace("\\", "/").rpartition("/")[2][-100:]) for file in files)
-        values["uploads"] = " ".join(documents.store(file.stream) for file in files)
+        streams = [file.stream for file in files]
+        note = form.get("note", "")
+        if len(note) > MOST_NOTE:
+            raise Refused(400, f"The note has at most {MOST_NOTE} characters.")
+        if form.get("cover") and (page := settings.cover_page(values["number"], values["name"], user, note)):
+            streams.insert(0, io.BytesIO(page.encode()))
+        values["uploads"] = " ".join(map(documents.store, streams))
         fax = store.add(user, token, **values, file_name=names, stage="uploaded")
         if any(fax[name] != value for name, value in values.items()):
             raise Refused(409, f"This form was sent before, as fax {fax['id']}. Load the page again for another fax.")
