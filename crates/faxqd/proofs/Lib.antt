@@ -5,3 +5,4 @@ mod RestartsLemmas
 mod RowsRestarts
 mod SayingLemmas
 mod ServeLemmas
+mod SettingsLemmas
