@@ -404,7 +404,7 @@ def desk_package(folder):
     done("dpkg-deb", "--raw-extract", folder / "out/faxqd-desk_1.0_all.deb", folder / "root")
     names = {file.relative_to(TOP / "desk").as_posix() for file in (TOP / "desk/faxdesk").glob("**/*.*") if file.suffix != ".pyc"}
     there = {file.relative_to(folder / "root/usr/lib/faxqd").as_posix() for file in (folder / "root/usr/lib/faxqd").glob("**/*.*")}
-    expect_same(there | {"faxdesk/__init__.py", "faxdesk/client.py"}, names, "the modules of the package and of faxq")
+    expect_same(sorted(there | {"faxdesk/__init__.py", "faxdesk/client.py"}), sorted(names), "the modules of the package and of faxq")
     for target in pathlib.Path("/lib/systemd/system").glob("*.target"):
         shutil.copy(target, folder / "root/lib/systemd/system")
     (folder / "root/usr/bin").mkdir()
