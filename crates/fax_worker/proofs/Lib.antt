@@ -9,3 +9,5 @@ mod BoundLemmas
 mod JobLemmas
 mod OrderLemmas
 mod JoinLemmas
+mod ActingLemmas
+mod ReasonLemmas

@@ -1,5 +1,17 @@
-//! The worker of a modem, as a machine of its own: which request it begins, and what it holds after an answer.
-//! The laws of [`laws`] are of definitions alone.
+//! The worker of a modem: which request it begins, how that is said and its answer read, and what it holds then.
+//!
+//! A [`Worker`] is what a journal has. The laws of [`laws`] are of definitions alone.
 #![tactic(auto)]
 
+mod answer;
+mod grant;
 pub mod laws;
+mod pending;
+mod reason;
+mod worker;
+
+pub use answer::{Answer, Look};
+pub use grant::{Handed, Held};
+pub use pending::Pending;
+pub use reason::Reason;
+pub use worker::{Action, NotNow, Worker};
