@@ -11,3 +11,5 @@ mod OrderLemmas
 mod JoinLemmas
 mod ActingLemmas
 mod ReasonLemmas
+pub mod JsonLemmas
+mod SayingLemmas

@@ -7,3 +7,4 @@ pub mod Sayable
 pub mod Acting
 pub mod Reading
 pub mod Answer
+pub mod Saying

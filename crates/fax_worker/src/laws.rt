@@ -4,6 +4,7 @@
 
 ghost use Rattle.fax_worker.specs.Join.{AnswersAreReplies, SessionsAreTraces};
 ghost use Rattle.fax_worker.specs.Laws.{InOrderAtTheReceiver, NumbersAreUsedOnce, OnceAtTheReceiver, ReportsWillBeAccepted, TracesAgree, TransmitsTheNext};
+ghost use Rattle.fax_worker.specs.Saying.{SaysWhatItMeans};
 
 /// Whenever nothing is unanswered, a worker that holds a grant and the queue agree about it: it is open, with the same
 /// job, number to dial, pages and call, and as many pages are confirmed as the worker has reported. Each report that a
@@ -37,4 +38,10 @@ pub fn in_order_at_the_receiver()
 pub fn traces_are_histories()
     ensures replies { AnswersAreReplies }
     ensures sessions { SessionsAreTraces }
+{}
+
+/// The queue reads path and body of a worker's request as the request that was meant.
+#[tactic(auto, using(crate::proofs::SayingLemmas::says_what_it_means))]
+pub fn says_what_it_means()
+    ensures { SaysWhatItMeans }
 {}

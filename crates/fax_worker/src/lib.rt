@@ -8,10 +8,12 @@ mod grant;
 pub mod laws;
 mod pending;
 mod reason;
+mod saying;
 mod worker;
 
 pub use answer::{Answer, Look};
 pub use grant::{Handed, Held};
 pub use pending::Pending;
 pub use reason::Reason;
+pub use saying::{Said, call_word};
 pub use worker::{Action, NotNow, Worker};
