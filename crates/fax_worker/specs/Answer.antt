@@ -4,6 +4,8 @@ use Rattle.fax_job.specs.declared.refusal.Refusal.{Refusal as Fault}
 use Rattle.fax_job.specs.declared.refusal.Refusal.TheVariants as fault
 use Rattle.fax_core.specs.Reply as machine
 use Rattle.fax_core.specs.Run.{Answer, Replied, Denied}
+use Rattle.fax_worker.specs.declared.reading.HandedText.{HandedText}
+use Rattle.fax_worker.specs.Reading.{HandedParts}
 use Rattle.fax_worker.specs.declared.answer.Answer.{Answer as Told}
 use Rattle.fax_worker.specs.declared.answer.Answer.TheVariants.{NoneToSend, Given, Called, Confirmed, Stands, Floored, Refused, Rejected, Busy, PageOrder}
 
@@ -20,6 +22,10 @@ answer_of (Busy called handed) = Denied fault.ModemBusy (machine.HeldGrant calle
 answer_of (PageOrder npages) = Denied fault.PageOrder (machine.Pages npages)
 
 -- why a request is refused, if it is
-abbrev pub refusal_in : Answer → Option Fault
-refusal_in (Replied reply) = None
-refusal_in (Denied refusal keys) = Some refusal
+abbrev pub fault_in : Answer → Option Fault
+fault_in (Replied reply) = None
+fault_in (Denied refusal keys) = Some refusal
+
+-- a grant whose number to dial is still in its JSON
+abbrev pub parts_of : HandedText → HandedParts
+parts_of h = record { grant = h.grant; job = h.job; number = h.number.now; from = h.from; to = h.to }

@@ -2,7 +2,7 @@
 
 ghost use Rattle.std.specs.Prelude.{◌≡◌, ◌≤◌};
 ghost use Rattle.fax_value.specs.Limits.{most_pages};
-ghost use Rattle.fax_worker.specs.Answer.{answer_of, refusal_in};
+ghost use Rattle.fax_worker.specs.Answer.{answer_of, fault_in};
 
 use crate::grant::Handed;
 use fax_job::{Call, Refusal};
@@ -36,7 +36,7 @@ pub enum Answer {
 impl Answer {
     /// The refusal, if the request is refused.
     pub fn refusal(&self) -> Option<Refusal>
-        ensures { result ≡ refusal_in (answer_of self.now) }
+        ensures { result ≡ fault_in (answer_of self.now) }
     {
         match self {
             Answer::Refused(refusal) => Some(*refusal),

@@ -7,6 +7,7 @@ mod answer;
 mod grant;
 pub mod laws;
 mod pending;
+mod reading;
 mod reason;
 mod saying;
 mod worker;
