@@ -13,3 +13,4 @@ mod ActingLemmas
 mod ReasonLemmas
 pub mod JsonLemmas
 mod SayingLemmas
+mod AnswerLemmas

@@ -8,3 +8,4 @@ pub mod Acting
 pub mod Reading
 pub mod Answer
 pub mod Saying
+pub mod Replies

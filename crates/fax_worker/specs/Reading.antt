@@ -7,9 +7,12 @@ use Rattle.serde_json.specs.Data.{Data}
 use Rattle.serde_json.specs.Find.{get}
 use Rattle.fax_value.specs.Dial.{is_canonical, without_separators}
 use Rattle.fax_value.specs.Limits.{last_grant, last_job, most_pages}
-use Rattle.fax_job.specs.Refusal.{refusal_number, refusal_status, refusal_word}
+use Rattle.fax_job.specs.Refusal.{body_word, line_word, refusal_number, refusal_status, refusal_word}
+use Rattle.fax_job.specs.declared.lines.LineKind.{LineKind}
+use Rattle.fax_job.specs.declared.refusal.BodyFault.{BodyFault}
+use Rattle.fax_job.specs.declared.refusal.BodyFault.TheVariants.{Line}
 use Rattle.fax_job.specs.declared.refusal.Refusal.{Refusal as Fault}
-use Rattle.fax_job.specs.declared.refusal.Refusal.TheVariants.{ModemBusy, PageOrder, Rejected}
+use Rattle.fax_job.specs.declared.refusal.Refusal.TheVariants.{BadBody, ModemBusy, PageOrder, Rejected}
 use Rattle.fax_core.specs.declared.ask.Ask.{Ask}
 use Rattle.fax_core.specs.declared.ask.Ask.TheVariants.{Next, OnGrant, GiveUp}
 use Rattle.fax_core.specs.declared.report.Report.{Report}
@@ -17,6 +20,7 @@ use Rattle.fax_core.specs.declared.report.Report.TheVariants as report
 use Rattle.fax_core.specs.Reply.{Handed, Reply, NoneToSend, Given, Called, Confirmed, Stands, Floored, NoKeys, Notice, HeldGrant, Pages}
 use Rattle.fax_core.specs.Run.{Answer, Replied, Denied}
 use Rattle.fax_ask.specs.Report.{IsJson, IsNoJson, bool_at, number_at, text_at, within}
+use Rattle.fax_worker.specs.declared.body_fault.TheConstants.{FAULTS, LINE_KINDS}
 use Rattle.fax_worker.specs.declared.reading.TheConstants.{REFUSALS}
 
 -- ---- grants
@@ -111,11 +115,35 @@ refusal_told status number word = find (is_told status number word) REFUSALS
 unfoldable pub refusal_in : ℕ → Data → Option Fault
 refusal_in status json = option_and_then (λ number. option_and_then (refusal_told status number) (text_at (codes "word") json)) (number_at (codes "no") json)
 
+-- the fault of a body, by its kind, and by its line where it has one
+abbrev pub is_kind : List ℕ → LineKind → Bool
+is_kind word kind = bytes_eq (line_word kind) word
+
+abbrev pub kind_named : List ℕ → Option LineKind
+kind_named word = find (is_kind word) LINE_KINDS
+
+abbrev pub is_fault : List ℕ → BodyFault → Bool
+is_fault word fault = bytes_eq (body_word fault) word
+
+abbrev pub fault_named : List ℕ → Option BodyFault
+fault_named word = find (is_fault word) FAULTS
+
+abbrev pub fault_told : Option ℕ → List ℕ → Option BodyFault
+fault_told None kind = fault_named kind
+fault_told (Some line) kind = option_map (Line line) (kind_named kind)
+
+unfoldable pub fault_in : Data → Option BodyFault
+fault_in json = option_and_then (fault_told (number_at (codes "line") json)) (text_at (codes "kind") json)
+
+abbrev pub bad_body_in : Data → Option Answer
+bad_body_in json = option_map (λ fault. Denied (BadBody fault) NoKeys) (fault_in json)
+
 abbrev pub held_in : Data → Option Answer
 held_in json = option_and_then (λ called. option_map (λ handed. Denied ModemBusy (HeldGrant called handed)) (handed_in json)) (bool_at (codes "called") json)
 
 -- what is told of some refusals has to be there
 abbrev pub denied_in : Fault → Data → Option Answer
+denied_in (BadBody fault) json = bad_body_in json
 denied_in Rejected json = option_map (λ notice. Denied Rejected (Notice notice)) (text_at (codes "notice") json)
 denied_in ModemBusy json = option_and_then held_in (get (codes "held") json)
 denied_in PageOrder json = option_map (λ npages. Denied PageOrder (Pages npages)) (npages_in json)

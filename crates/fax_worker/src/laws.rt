@@ -4,6 +4,7 @@
 
 ghost use Rattle.fax_worker.specs.Join.{AnswersAreReplies, SessionsAreTraces};
 ghost use Rattle.fax_worker.specs.Laws.{InOrderAtTheReceiver, NumbersAreUsedOnce, OnceAtTheReceiver, ReportsWillBeAccepted, TracesAgree, TransmitsTheNext};
+ghost use Rattle.fax_worker.specs.Replies.{AnswersAreRead};
 ghost use Rattle.fax_worker.specs.Saying.{SaysWhatItMeans};
 
 /// Whenever nothing is unanswered, a worker that holds a grant and the queue agree about it: it is open, with the same
@@ -41,7 +42,11 @@ pub fn traces_are_histories()
 {}
 
 /// The queue reads path and body of a worker's request as the request that was meant.
-#[tactic(auto, using(crate::proofs::SayingLemmas::says_what_it_means))]
 pub fn says_what_it_means()
     ensures { SaysWhatItMeans }
+{}
+
+/// From the bytes that the queue sends for an answer a worker reads that answer.
+pub fn answers_are_read()
+    ensures { AnswersAreRead }
 {}

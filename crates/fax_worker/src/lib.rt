@@ -4,6 +4,7 @@
 #![tactic(auto)]
 
 mod answer;
+mod body_fault;
 mod grant;
 pub mod laws;
 mod pending;

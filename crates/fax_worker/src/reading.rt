@@ -3,35 +3,39 @@
 //! A worker takes a reply as the queue's answer only if its status and its JSON (RFC 8259) are those that the queue has for
 //! the request. All else, as a proxy's page or half a reply, says nothing.
 
-ghost use Rattle.std.specs.Prelude.{◌≡◌, ◌≤◌, IfOk, IfSome, option_and_then};
+ghost use Rattle.std.specs.Prelude.{◌≡◌, ◌≤◌, IfOk, IfSome, Some, option_and_then};
 ghost use Rattle.std.specs.Option.{option_copied, option_map};
 ghost use Rattle.fax_value.specs.Limits.{most_pages};
 ghost use Rattle.fax_ask.specs.Report.{bool_at, number_at, text_at, within};
-ghost use Rattle.fax_core.specs.Run.{Replied};
+ghost use Rattle.fax_core.specs.Run.{Answer as Response, Replied};
 ghost use Rattle.fax_worker.specs.Answer.{answer_of, parts_of};
-ghost use Rattle.fax_worker.specs.Reading.{IsJsonIfSome, IsRead, answer_in, called_in, confirmed_in, denied_in, floored_in, handed_in, handed_of, held_in, is_told, is_zero, npages_in, parts_in, refusal_in, refusal_told, reply_in, report_reply_in, stands_in, work_in};
+ghost use Rattle.fax_worker.specs.Join.{response_of};
+ghost use Rattle.fax_worker.specs.Replies.{IsAnswerTo};
+ghost use Rattle.fax_worker.specs.Reading.{IsJsonIfSome, IsRead, answer_in, bad_body_in, called_in, confirmed_in, denied_in, floored_in, handed_in, handed_of, held_in, is_told, is_zero, npages_in, parts_in, refusal_in, refusal_told, reply_in, report_reply_in, stands_in, work_in};
 ghost use Rattle.fax_job.specs.declared.refusal.Refusal.TheVariants.{ModemBusy, PageOrder, Rejected};
 ghost use Rattle.serde_json.specs.Errors.{IsMemory};
 ghost use Rattle.serde_json.specs.Find.{get};
 ghost use Rattle.serde_json.specs.View.{view};
 
 use crate::answer::Answer;
+use crate::body_fault::fault_told;
 use crate::grant::Handed;
 use crate::pending::Pending;
 use fax_core::{Ask, Report};
 use fax_job::limits::{LAST_JOB, MOST_PAGES};
-use fax_job::{Dial, Refusal, TextFault};
+use fax_job::{BodyFault, Dial, Refusal, TextFault};
 use serde_json::Value;
 use std::alloc::{AllocError, Global};
 
-/// The refusals that are answers. `Unavailable` isn't: the request may be accepted later. Nor is a fault of the body,
-/// which no worker's request has.
-static REFUSALS: [Refusal; 28] = [
+/// The refusals that are answers. `Unavailable` isn't: the request may be accepted later. `BadBody` is here for each fault
+/// of a body, since they share status, number and word.
+static REFUSALS: [Refusal; 29] = [
     Refusal::BadHttp,
     Refusal::TooLarge,
     Refusal::NoRoute,
     Refusal::BadClient,
     Refusal::BadNumber,
+    Refusal::BadBody(BodyFault::BadField),
     Refusal::NumberReused,
     Refusal::NoJob,
     Refusal::NoModem,
@@ -70,6 +74,7 @@ pub struct HandedText<'a> {
 impl Pending {
     /// The queue's answer to this request, in a reply of this status and body, if it has one. The only error is out of
     /// memory.
+    #[tactic(auto, using(crate::proofs::AnswerLemmas::sent_if))]
     pub fn read_answer(
         &self,
         alloc: Global,
@@ -78,12 +83,28 @@ impl Pending {
     ) -> Result<Option<Answer>, AllocError>
         ensures read { IfOk result (λ read.
             IsRead self.now.ask status body.now (option_map answer_of read)) }
+        // Each answer that the queue has for the request is read as itself.
+        ensures sent { IfOk result (λ read. (answer : Response) → IsAnswerTo self.now.ask answer
+            → status ≡ (response_of answer).status → body.now ≡ (response_of answer).body
+            → option_map answer_of read ≡ Some answer) }
     {
-        let Some(json) = read_json(alloc, body)? else {
-            return Ok(None);
-        };
-        answer_in(alloc, self.ask(), status, &json)
+        read(alloc, self.ask(), status, body)
     }
+}
+
+/// The answer to a request, in a reply of this status and body.
+fn read(
+    alloc: Global,
+    ask: &Ask,
+    status: u16,
+    body: &[u8],
+) -> Result<Option<Answer>, AllocError>
+    ensures { IfOk result (λ read. IsRead ask.now status body.now (option_map answer_of read)) }
+{
+    let Some(json) = read_json(alloc, body)? else {
+        return Ok(None);
+    };
+    answer_in(alloc, ask, status, &json)
 }
 
 /// The JSON that a body is, if it is one.
@@ -222,11 +243,21 @@ fn denied_in(alloc: Global, refusal: Refusal, json: &Value) -> Result<Option<Ans
         option_map answer_of read ≡ denied_in refusal (view json.now)) }
 {
     match refusal {
+        Refusal::BadBody(_) => Ok(bad_body_in(json)),
         Refusal::Rejected => rejected_in(alloc, json),
         Refusal::ModemBusy => busy_in(alloc, json),
         Refusal::PageOrder => Ok(page_order_in(json)),
         other => Ok(Some(Answer::Refused(other))),
     }
+}
+
+#[tactic(auto, unfolding(crate::specs::Reading::fault_in))]
+fn bad_body_in(json: &Value) -> Option<Answer>
+    ensures { option_map answer_of result ≡ bad_body_in (view json.now) }
+{
+    let kind = text_at(json, "kind")?;
+    let fault = fault_told(number_at(json, "line"), kind)?;
+    Some(Answer::Refused(Refusal::BadBody(fault)))
 }
 
 fn rejected_in(alloc: Global, json: &Value) -> Result<Option<Answer>, AllocError>
