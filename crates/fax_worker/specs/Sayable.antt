@@ -1,5 +1,5 @@
 -- What a worker can say, and what it keeps to so that it can say what comes next.
-use Rattle.std.specs.Prelude.{◌≡◌, ◌≤◌, ◌<◌, ◌^◌, ⊤, ℕ, List, true, IfSome}
+use Rattle.std.specs.Prelude.{◌≡◌, ◌≤◌, ◌<◌, ◌^◌, ⊤, ℕ, List, true, Option, IfSome}
 use Rattle.std.specs.Str.{IsUtf8}
 use Rattle.fax_value.specs.Dial.{IsCanonical}
 use Rattle.fax_value.specs.Limits.{last_grant, last_job, most_pages}
@@ -11,7 +11,7 @@ use Rattle.fax_core.specs.declared.report.Outcome.{Outcome}
 use Rattle.fax_core.specs.declared.report.Report.{Report}
 use Rattle.fax_core.specs.declared.report.Report.TheVariants as report
 use Rattle.fax_core.specs.Reply.{Handed}
-use Rattle.fax_worker.specs.Worker.{Held, Worker}
+use Rattle.fax_worker.specs.Worker.{Held, Pending, Worker}
 
 -- ---- requests
 
@@ -74,6 +74,9 @@ abbrev pub CountsPage : Ask → Held → Type 0
 CountsPage (OnGrant grant r) h = CountsReport r h
 CountsPage other h = ⊤
 
--- a worker whose unanswered report leaves room to count its page
+-- an unanswered report of a page leaves room to count it
+abbrev pub AreSteady : Option Pending → Option Held → Type 0
+AreSteady unanswered held = IfSome unanswered (λ p. IfSome held (λ h. CountsPage p.ask h))
+
 abbrev pub IsSteady : Worker → Type 0
-IsSteady w = IfSome w.unanswered (λ p. IfSome w.held (λ h. CountsPage p.ask h))
+IsSteady w = AreSteady w.unanswered w.held

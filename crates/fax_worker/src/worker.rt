@@ -1,10 +1,10 @@
 //! The worker: which request it begins, and what it holds after an answer.
 
-ghost use Rattle.std.specs.Prelude.{◌≡◌, IfErr, IfOk, IfSome, None, Some};
+ghost use Rattle.std.specs.Prelude.{◌≡◌, IfErr, IfNone, IfOk, IfSome, None, Some, option_copied, true};
 ghost use Rattle.fax_core.specs.declared.ask.Ask.TheVariants.{GiveUp};
 ghost use Rattle.fax_worker.specs.Acting.{CannotBegin, HasBegun, found_after, reported_after, request_of};
 ghost use Rattle.fax_worker.specs.Answer.{answer_of};
-ghost use Rattle.fax_worker.specs.Sayable.{CountsPage, CountsReport, IsSayable};
+ghost use Rattle.fax_worker.specs.Sayable.{AreSteady, CountsPage, CountsReport, IsSayable, IsSteady};
 ghost use Rattle.fax_worker.specs.Worker.{IsAnswered, Pending as Request, after_report, found, held_after};
 
 use crate::answer::{Answer, Look};
@@ -12,6 +12,7 @@ use crate::grant::{Handed, Held};
 use crate::pending::Pending;
 use crate::reason::Reason;
 use fax_core::{Ask, Ending, Report};
+use fax_job::limits::MOST_PAGES;
 use fax_job::{Call, Name, Refusal, RequestNumber};
 use std::marker::Model;
 use thiserror::Error;
@@ -65,6 +66,50 @@ impl Worker {
             unanswered: None,
             held: None,
         }
+    }
+
+    /// The worker of a journal that has this, if it could come to be: an unanswered report of a page leaves room to count it.
+    pub fn restored(
+        client: Name,
+        last: RequestNumber,
+        unanswered: Option<Pending>,
+        held: Option<Held>,
+    ) -> Option<Worker>
+        ensures restored { IfSome result (λ w.
+            w ≡ record { client = client; last = last; unanswered = unanswered; held = held }) }
+        ensures none { IfNone result (
+            IsSteady (record { client = client; last = last; unanswered = unanswered; held = held }) → ⊥) }
+    {
+        if !is_steady(&unanswered, &held) {
+            return None;
+        }
+        Some(Worker {
+            client,
+            last,
+            unanswered,
+            held,
+        })
+    }
+
+    /// Its name as a client.
+    pub fn client(&self) -> &str
+        ensures { result.now ≡ self.now.client }
+    {
+        self.client.as_str()
+    }
+
+    /// The request that isn't answered yet.
+    pub fn unanswered(&self) -> Option<&Pending>
+        ensures { option_copied result ≡ self.now.unanswered }
+    {
+        self.unanswered.as_ref()
+    }
+
+    /// The grant that it holds.
+    pub fn held(&self) -> Option<&Held>
+        ensures { option_copied result ≡ self.now.held }
+    {
+        self.held.as_ref()
     }
 
     /// The last number that it used.
@@ -126,6 +171,30 @@ impl Worker {
         };
         let held = self.held.take();
         self.held = held_after(pending.ask(), answer, look, held);
+    }
+}
+
+/// Whether an unanswered report of a page leaves room to count it.
+fn is_steady(unanswered: &Option<Pending>, held: &Option<Held>) -> bool
+    ensures yes { result ≡ true → AreSteady unanswered.now held.now }
+    ensures all { AreSteady unanswered.now held.now → result ≡ true }
+{
+    match (unanswered, held) {
+        (Some(pending), Some(held)) => counts_page(pending.ask(), held),
+        _ => true,
+    }
+}
+
+fn counts_page(ask: &Ask, held: &Held) -> bool
+    ensures yes { result ≡ true → CountsPage ask.now held.now }
+    ensures all { CountsPage ask.now held.now → result ≡ true }
+{
+    match ask {
+        Ask::OnGrant {
+            grant: _,
+            report: Report::Page(_),
+        } => held.pages() < MOST_PAGES,
+        _ => true,
     }
 }
 
