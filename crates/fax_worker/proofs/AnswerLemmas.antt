@@ -41,7 +41,7 @@ use Rattle.fax_core.specs.declared.report.Outcome.{Outcome}
 use Rattle.fax_worker.proofs.JsonLemmas.{ArePlain, IsPlain, text_is_json}
 use Rattle.fax_worker.specs.Join.{response_of}
 use Rattle.fax_worker.specs.Reading.{HandedParts, IsJsonIfSome, IsRead, answer_in, called_in, confirmed_in, denied_in, dial_in, fault_in, fault_named, fault_told, kind_named, floored_in, handed_of, is_told, parts_in, refusal_in, refusal_told, stands_in}
-use Rattle.fax_worker.specs.Replies.{AnswersAreRead, HasLine, IsAnswerTo, IsRefusal, IsReplyTo, IsReportReply, IsStanding}
+use Rattle.fax_worker.specs.Replies.{AnswersAreRead, HasLine, IsAnswerTo, IsRefusal, IsReplyTo, IsReportReply, IsStanding, IsWritable}
 use Rattle.fax_worker.specs.Sayable.{IsHanded}
 
 -- ---- the JSON of answers
@@ -256,14 +256,14 @@ report_reads grant (report.Outcome outcome) (Stands job state) is = stands_reads
 report_reads grant (report.Outcome outcome) other is = absurd is
 
 -- the reply to an accepted request
-reply_reads : (ask : Ask) (reply : Reply) → IsReplyTo ask reply → ReadsAs ask (Replied reply) (reply_json reply)
-reply_reads (Next modem) NoneToSend is = none_reads modem
-reply_reads (Next modem) (Given h) is = given_reads modem h is
-reply_reads (Next modem) other is = absurd is
-reply_reads (OnGrant grant r) reply is = report_reads grant r reply is
-reply_reads (GiveUp upto) (Floored floor) is = floored_reads upto floor is
-reply_reads (GiveUp upto) other is = absurd is
-reply_reads other reply is = absurd is
+reply_reads : (ask : Ask) (reply : Reply) → IsReplyTo ask reply → IsWritable (Replied reply) → ReadsAs ask (Replied reply) (reply_json reply)
+reply_reads (Next modem) NoneToSend is written = none_reads modem
+reply_reads (Next modem) (Given h) is written = given_reads modem h is
+reply_reads (Next modem) other is written = absurd is
+reply_reads (OnGrant grant r) reply is written = report_reads grant r reply is
+reply_reads (GiveUp upto) (Floored floor) is written = floored_reads upto floor written
+reply_reads (GiveUp upto) other is written = absurd is
+reply_reads other reply is written = absurd is
 
 -- ---- refused requests
 
@@ -485,17 +485,17 @@ busy_reads ask called h is =
     }
 
 -- each refusal
-refusal_reads : (ask : Ask) (refusal : Refusal) (keys : Keys) → IsRefusal refusal keys → ReadsAs ask (Denied refusal keys) (denied_json refusal keys)
-refusal_reads ask (BadBody fault) NoKeys is = body_reads ask fault is
-refusal_reads ask Rejected (Notice text) is = notice_reads ask text is
-refusal_reads ask ModemBusy (HeldGrant called h) is = busy_reads ask called h is
-refusal_reads ask PageOrder (Pages npages) is = pages_reads ask npages is
-refusal_reads ask Rejected NoKeys is = absurd is
-refusal_reads ask ModemBusy NoKeys is = absurd is
-refusal_reads ask PageOrder NoKeys is = absurd is
-refusal_reads ask Unavailable NoKeys is = absurd is
-refusal_reads ask refusal NoKeys is = plain_reads ask refusal tt refl
-refusal_reads ask refusal other is = absurd is
+refusal_reads : (ask : Ask) (refusal : Refusal) (keys : Keys) → IsRefusal refusal keys → IsWritable (Denied refusal keys) → ReadsAs ask (Denied refusal keys) (denied_json refusal keys)
+refusal_reads ask (BadBody fault) NoKeys is written = body_reads ask fault written
+refusal_reads ask Rejected (Notice text) is written = notice_reads ask text written
+refusal_reads ask ModemBusy (HeldGrant called h) is written = busy_reads ask called h is
+refusal_reads ask PageOrder (Pages npages) is written = pages_reads ask npages is
+refusal_reads ask Rejected NoKeys is written = absurd is
+refusal_reads ask ModemBusy NoKeys is written = absurd is
+refusal_reads ask PageOrder NoKeys is written = absurd is
+refusal_reads ask Unavailable NoKeys is written = absurd is
+refusal_reads ask refusal NoKeys is written = plain_reads ask refusal tt refl
+refusal_reads ask refusal other is written = absurd is
 
 -- ---- the whole
 
@@ -504,9 +504,9 @@ json_of (Replied reply) = reply_json reply
 json_of (Denied refusal keys) = denied_json refusal keys
 
 -- each answer has its JSON
-answer_reads : (ask : Ask) (answer : Answer) → IsAnswerTo ask answer → ReadsAs ask answer (json_of answer)
-answer_reads ask (Replied reply) is = reply_reads ask reply is
-answer_reads ask (Denied refusal keys) is = refusal_reads ask refusal keys is
+answer_reads : (ask : Ask) (answer : Answer) → IsAnswerTo ask answer → IsWritable answer → ReadsAs ask answer (json_of answer)
+answer_reads ask (Replied reply) is written = reply_reads ask reply is written
+answer_reads ask (Denied refusal keys) is written = refusal_reads ask refusal keys is written
 
 -- a body has one JSON
 one_json : (body : List ℕ) (o : Option Data) (json : Data) → IsJsonIfSome body o → IsJson body json → o ≡ Some json
@@ -515,19 +515,19 @@ one_json body (Some d) json some is = sym some.written ∙ is.written
 
 -- so each answer is read as itself
 pub answers_are_read : AnswersAreRead
-answers_are_read ask answer out is r =
+answers_are_read ask answer out is written r =
     let json = json_of answer in
-    let reads : ReadsAs ask answer json = answer_reads ask answer is in
+    let reads : ReadsAs ask answer json = answer_reads ask answer is written in
     let there : IsJson (response_of answer).body json = subst (λ (body : List ℕ). IsJson body json) reads.text (text_is_json json reads.plain reads.shallow) in
     r.read ∙ (ap (option_and_then (answer_in ask (response_of answer).status)) (one_json (response_of answer).body r.json json r.is_json there) ∙ reads.says)
 
 -- wherever status and bytes are
 read_as_sent : (ask : Ask) (status : ℕ) (body : List ℕ) (out : Option Answer) → IsRead ask status body out
-    → (answer : Answer) → IsAnswerTo ask answer → status ≡ (response_of answer).status → body ≡ (response_of answer).body → out ≡ Some answer
-read_as_sent ask status body out r answer is same bytes =
-    answers_are_read ask answer out is (subst (λ (n : ℕ). IsRead ask n (response_of answer).body out) same (subst (λ (text : List ℕ). IsRead ask status text out) bytes r))
+    → (answer : Answer) → IsAnswerTo ask answer → IsWritable answer → status ≡ (response_of answer).status → body ≡ (response_of answer).body → out ≡ Some answer
+read_as_sent ask status body out r answer is written same bytes =
+    answers_are_read ask answer out is written (subst (λ (n : ℕ). IsRead ask n (response_of answer).body out) same (subst (λ (text : List ℕ). IsRead ask status text out) bytes r))
 
 pub sent_if : {E : Type 0} (asked ask : Ask) (status : ℕ) (body : List ℕ) (r : Result (Option Told) E) → asked ≡ ask → IfOk r (λ out. IsRead asked status body (option_map answer_of out))
-    → IfOk r (λ out. (answer : Answer) → IsAnswerTo ask answer → status ≡ (response_of answer).status → body ≡ (response_of answer).body → option_map answer_of out ≡ Some answer)
-sent_if asked ask status body (Ok out) same is = λ answer is_answer number bytes. read_as_sent ask status body (option_map answer_of out) (subst (λ (a : Ask). IsRead a status body (option_map answer_of out)) same is) answer is_answer number bytes
+    → IfOk r (λ out. (answer : Answer) → IsAnswerTo ask answer → IsWritable answer → status ≡ (response_of answer).status → body ≡ (response_of answer).body → option_map answer_of out ≡ Some answer)
+sent_if asked ask status body (Ok out) same is = λ answer is_answer written number bytes. read_as_sent ask status body (option_map answer_of out) (subst (λ (a : Ask). IsRead a status body (option_map answer_of out)) same is) answer is_answer written number bytes
 sent_if asked ask status body (Err fault) same is = tt

@@ -14,3 +14,4 @@ mod ReasonLemmas
 pub mod JsonLemmas
 mod SayingLemmas
 mod AnswerLemmas
+mod OnlyLemmas

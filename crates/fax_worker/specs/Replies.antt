@@ -1,5 +1,5 @@
 -- Which answers a queue has for a worker's request.
-use Rattle.std.specs.Prelude.{◌≡◌, ◌≤◌, ◌<◌, ◌^◌, ⊤, ℕ, Option, Some}
+use Rattle.std.specs.Prelude.{◌≡◌, ◌≤◌, ◌<◌, ◌^◌, ⊤, ℕ, List, Option, Some}
 use Rattle.std.specs.Str.{IsUtf8}
 use Rattle.fax_value.specs.Limits.{last_job, most_pages}
 use Rattle.fax_job.specs.declared.refusal.BodyFault.{BodyFault}
@@ -36,18 +36,13 @@ abbrev pub IsReplyTo : Ask → Reply → Type 0
 IsReplyTo (Next modem) NoneToSend = ⊤
 IsReplyTo (Next modem) (Given handed) = IsHanded handed
 IsReplyTo (OnGrant grant r) reply = IsReportReply r reply
-IsReplyTo (GiveUp upto) (Floored floor) = floor < 2 ^ 64
+IsReplyTo (GiveUp upto) (Floored floor) = ⊤
 IsReplyTo ask other = ⊥
-
--- the line of a fault fits 64 bits
-abbrev pub HasLine : BodyFault → Type 0
-HasLine (Line line kind) = line < 2 ^ 64
-HasLine other = ⊤
 
 -- what is told of a refusal; `Unavailable` is none, since the request may be accepted later
 abbrev pub IsRefusal : Refusal → Keys → Type 0
-IsRefusal (BadBody fault) NoKeys = HasLine fault
-IsRefusal Rejected (Notice text) = IsUtf8 text
+IsRefusal (BadBody fault) NoKeys = ⊤
+IsRefusal Rejected (Notice text) = ⊤
 IsRefusal ModemBusy (HeldGrant called handed) = IsHanded handed
 IsRefusal PageOrder (Pages npages) = npages ≤ most_pages
 IsRefusal Rejected NoKeys = ⊥
@@ -61,7 +56,24 @@ abbrev pub IsAnswerTo : Ask → Answer → Type 0
 IsAnswerTo ask (Replied reply) = IsReplyTo ask reply
 IsAnswerTo ask (Denied refusal keys) = IsRefusal refusal keys
 
+-- the line of a fault fits 64 bits
+abbrev pub HasLine : BodyFault → Type 0
+HasLine (Line line kind) = line < 2 ^ 64
+HasLine other = ⊤
+
+-- its numbers fit 64 bits, and its texts are UTF-8
+abbrev pub IsWritable : Answer → Type 0
+IsWritable (Replied (Floored floor)) = floor < 2 ^ 64
+IsWritable (Denied (BadBody fault) NoKeys) = HasLine fault
+IsWritable (Denied Rejected (Notice text)) = IsUtf8 text
+IsWritable other = ⊤
+
 -- Each answer is read as itself, from the bytes that the queue sends for it.
 abbrev pub AnswersAreRead : Type 0
-AnswersAreRead = (ask : Ask) (answer : Answer) (read : Option Answer) → IsAnswerTo ask answer
+AnswersAreRead = (ask : Ask) (answer : Answer) (read : Option Answer) → IsAnswerTo ask answer → IsWritable answer
     → IsRead ask (response_of answer).status (response_of answer).body read → read ≡ Some answer
+
+-- Only an answer that a queue has for the request is read, and only under the status that the queue sends it with.
+abbrev pub OnlyAnswersAreRead : Type 0
+OnlyAnswersAreRead = (ask : Ask) (status : ℕ) (body : List ℕ) (answer : Answer) → IsRead ask status body (Some answer)
+    → IsAnswerTo ask answer × (status ≡ (response_of answer).status)

@@ -4,7 +4,7 @@
 
 ghost use Rattle.fax_worker.specs.Join.{AnswersAreReplies, SessionsAreTraces};
 ghost use Rattle.fax_worker.specs.Laws.{InOrderAtTheReceiver, NumbersAreUsedOnce, OnceAtTheReceiver, ReportsWillBeAccepted, TracesAgree, TransmitsTheNext};
-ghost use Rattle.fax_worker.specs.Replies.{AnswersAreRead};
+ghost use Rattle.fax_worker.specs.Replies.{AnswersAreRead, OnlyAnswersAreRead};
 ghost use Rattle.fax_worker.specs.Saying.{SaysWhatItMeans};
 
 /// Whenever nothing is unanswered, a worker that holds a grant and the queue agree about it: it is open, with the same
@@ -46,7 +46,9 @@ pub fn says_what_it_means()
     ensures { SaysWhatItMeans }
 {}
 
-/// From the bytes that the queue sends for an answer a worker reads that answer.
+/// From the bytes that the queue sends for an answer a worker reads that answer. All that it reads are answers that a
+/// queue has for the request, each under the answer's own status. `Unavailable` is none.
 pub fn answers_are_read()
-    ensures { AnswersAreRead }
+    ensures sent { AnswersAreRead }
+    ensures only { OnlyAnswersAreRead }
 {}

@@ -10,7 +10,7 @@ ghost use Rattle.fax_ask.specs.Report.{bool_at, number_at, text_at, within};
 ghost use Rattle.fax_core.specs.Run.{Answer as Response, Replied};
 ghost use Rattle.fax_worker.specs.Answer.{answer_of, parts_of};
 ghost use Rattle.fax_worker.specs.Join.{response_of};
-ghost use Rattle.fax_worker.specs.Replies.{IsAnswerTo};
+ghost use Rattle.fax_worker.specs.Replies.{IsAnswerTo, IsWritable};
 ghost use Rattle.fax_worker.specs.Reading.{IsJsonIfSome, IsRead, answer_in, bad_body_in, called_in, confirmed_in, denied_in, floored_in, handed_in, handed_of, held_in, is_told, is_zero, npages_in, parts_in, refusal_in, refusal_told, reply_in, report_reply_in, stands_in, work_in};
 ghost use Rattle.fax_job.specs.declared.refusal.Refusal.TheVariants.{ModemBusy, PageOrder, Rejected};
 ghost use Rattle.serde_json.specs.Errors.{IsMemory};
@@ -74,7 +74,6 @@ pub struct HandedText<'a> {
 impl Pending {
     /// The queue's answer to this request, in a reply of this status and body, if it has one. The only error is out of
     /// memory.
-    #[tactic(auto, using(crate::proofs::AnswerLemmas::sent_if))]
     pub fn read_answer(
         &self,
         alloc: Global,
@@ -84,9 +83,13 @@ impl Pending {
         ensures read { IfOk result (λ read.
             IsRead self.now.ask status body.now (option_map answer_of read)) }
         // Each answer that the queue has for the request is read as itself.
-        ensures sent { IfOk result (λ read. (answer : Response) → IsAnswerTo self.now.ask answer
+        ensures sent { IfOk result (λ read.
+            (answer : Response) → IsAnswerTo self.now.ask answer → IsWritable answer
             → status ≡ (response_of answer).status → body.now ≡ (response_of answer).body
             → option_map answer_of read ≡ Some answer) }
+        // Nothing else is read.
+        ensures only { IfOk result (λ read. (answer : Response) → option_map answer_of read ≡ Some answer
+            → IsAnswerTo self.now.ask answer × (status ≡ (response_of answer).status)) }
     {
         read(alloc, self.ask(), status, body)
     }
