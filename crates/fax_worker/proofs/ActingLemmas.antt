@@ -1,7 +1,7 @@
 -- The request that a worker computes is the one that its action may begin.
-use Rattle.std.proofs.Common.{◌≡◌, ◌<◌, ◌≤◌, ◌&&◌, ℕ, Bool, true, false, cond, List, Option, Some, None, refl, sym, arith}
+use Rattle.std.proofs.Common.{◌≡◌, ◌<◌, ◌≤◌, ◌&&◌, ℕ, Bool, true, false, cond, List, Option, Some, None, refl}
 use Rattle.std.proofs.lemmas.Bool.{and_parts, leb-true, leb-false}
-use Rattle.std.specs.Prelude.{is_some, nat_le}
+use Rattle.std.specs.Prelude.{is_some}
 use Rattle.fax_job.specs.declared.job.Call.{Call}
 use Rattle.fax_job.specs.declared.job.Call.TheVariants.{Connected, Busy, NoAnswer, NoCarrier, Other}
 use Rattle.fax_core.specs.declared.ask.Ask.{Ask}
@@ -11,8 +11,8 @@ use Rattle.fax_core.specs.declared.report.Ending.TheVariants.{Done, Retry, Fail}
 use Rattle.fax_core.specs.declared.report.Report.TheVariants as report
 use Rattle.fax_worker.specs.declared.worker.Action.{Action as Act}
 use Rattle.fax_worker.specs.declared.worker.Action.TheVariants as act
-use Rattle.fax_worker.specs.Acting.{HasBegun, IsOf, call_report, has_page_left, is_connected, is_done, meant, outcome_report, page_report, request_of}
-use Rattle.fax_worker.specs.Worker.{Begins, Held, IsRequest, Worker, next_page, outcome_of, with_request}
+use Rattle.fax_worker.specs.Acting.{HasBegun, IsOf, has_page_left, is_connected, is_done, meant, outcome_report, page_report, request_of}
+use Rattle.fax_worker.specs.Worker.{Held, IsRequest, Worker, next_page, outcome_of, with_request}
 
 -- a report of a call
 call_by : (ask made : Ask) (call : Option Call) → cond (is_some call) None (Some made) ≡ Some ask → (call ≡ None) × (ask ≡ made)

@@ -1,17 +1,16 @@
 -- A queue's answers are read as they were sent.
-use Rattle.std.proofs.Common.{◌≡◌, ◌≤◌, ◌<◌, ◌^◌, ◌&&◌, ◌==◌, ℕ, List, [], ◌∷◌, ◌++◌, length, filter, Bool, true, false, not, cond, leb, Option, Some, None, option_and_then, codes, decimal, refl, sym, ap, ◌∙◌, subst, inl, inr, arith, append_assoc, IsUtf8}
+use Rattle.std.proofs.Common.{◌≡◌, ◌≤◌, ◌<◌, ◌^◌, ◌&&◌, ◌==◌, ℕ, List, [], ◌∷◌, ◌++◌, length, filter, Bool, true, false, not, leb, Option, Some, None, option_and_then, codes, decimal, refl, sym, ap, ◌∙◌, subst, inl, inr, arith, append_assoc, IsUtf8}
 use Rattle.std.proofs.lemmas.Bool.{and_parts, cases_Bool, le-leb, ne_eqb}
 use Rattle.std.proofs.lemmas.Bool.Decides.{nat_tests}
 use Rattle.std.specs.Fmt.{digits}
-use Rattle.std.specs.List.{find, list_all}
+use Rattle.std.specs.List.{list_all}
 use Rattle.std.specs.Option.{option_map}
 use Rattle.std.specs.Prelude.{⊤, IfOk, Result, Ok, Err}
 use Rattle.fax_worker.specs.Answer.{answer_of}
-use Rattle.fax_worker.specs.declared.answer.Answer.{Answer as Told}
+use Rattle.fax_worker.specs.declared.answer.Answer.{Answer as CodeAnswer}
 use Rattle.json.specs.Print.{escape, escape_byte, quoted}
 use Rattle.json.proofs.Printed.Utf8.{IsUtf8-are_ascii, are_ascii}
 use Rattle.serde_json.specs.Data.{Data, Members, boolean, member, no_members, null, number, object, string, unsigned}
-use Rattle.serde_json.specs.Read.{read}
 use Rattle.serde_json.specs.Written.{compact_text}
 use Rattle.fax_value.specs.Dial.{IsCanonical, are_keys, is_canonical, is_key, is_separator, without_separators}
 use Rattle.fax_value.specs.Limits.{last_grant, last_job, most_pages}
@@ -31,7 +30,7 @@ use Rattle.fax_core.specs.declared.report.Report.{Report}
 use Rattle.fax_core.specs.declared.report.Report.TheVariants as report
 use Rattle.fax_core.specs.Reply.{Handed, Reply, NoneToSend, Given, Called, Confirmed, Stands, Floored, Keys, NoKeys, Notice, HeldGrant, Pages}
 use Rattle.fax_core.specs.Run.{Answer, Replied, Denied}
-use Rattle.fax_ask.specs.Report.{IsJson, IsNoJson, number_at, text_at}
+use Rattle.fax_ask.specs.Report.{IsJson, number_at, text_at}
 use Rattle.fax_ask.specs.Response.{fault_bytes, refusal_bytes, refused_body, reply_body}
 use Rattle.json.specs.Tree.{depth}
 use Rattle.serde_json.specs.Read.{max_depth}
@@ -40,7 +39,7 @@ use Rattle.fax_job.specs.declared.job.Call.{Call}
 use Rattle.fax_core.specs.declared.report.Outcome.{Outcome}
 use Rattle.fax_worker.proofs.JsonLemmas.{ArePlain, IsPlain, text_is_json}
 use Rattle.fax_worker.specs.Join.{response_of}
-use Rattle.fax_worker.specs.Reading.{HandedParts, IsJsonIfSome, IsRead, answer_in, called_in, confirmed_in, denied_in, dial_in, fault_in, fault_named, fault_told, kind_named, floored_in, handed_of, is_told, parts_in, refusal_in, refusal_told, stands_in}
+use Rattle.fax_worker.specs.Reading.{HandedParts, IsJsonIfSome, IsRead, answer_in, called_in, confirmed_in, denied_in, dial_in, fault_in, fault_named, kind_named, floored_in, handed_of, parts_in, refusal_in, refusal_stated, stands_in}
 use Rattle.fax_worker.specs.Replies.{AnswersAreRead, HasLine, IsAnswerTo, IsRefusal, IsReplyTo, IsReportReply, IsStanding, IsWritable}
 use Rattle.fax_worker.specs.Sayable.{IsHanded}
 
@@ -272,10 +271,10 @@ abbrev named : Refusal → Refusal
 named (BadBody fault) = BadBody BadField
 named other = other
 
-told : (refusal : Refusal) → (refusal ≡ Unavailable → ⊥) → refusal_told (refusal_status refusal) (refusal_number refusal) (refusal_word refusal) ≡ Some (named refusal)
-told (BadBody fault) is = refl
-told Unavailable is = absurd (is refl)
-told other is = refl
+stated : (refusal : Refusal) → (refusal ≡ Unavailable → ⊥) → refusal_stated (refusal_status refusal) (refusal_number refusal) (refusal_word refusal) ≡ Some (named refusal)
+stated (BadBody fault) is = refl
+stated Unavailable is = absurd (is refl)
+stated other is = refl
 
 -- it is no reply to an accepted request
 not_ok : (refusal : Refusal) → (refusal_status refusal == 200) ≡ false
@@ -294,9 +293,9 @@ number_small other = omega arith
 refused : (ask : Ask) (refusal : Refusal) (json : Data) → (refusal ≡ Unavailable → ⊥) → number_at (codes "no") json ≡ Some (refusal_number refusal) → text_at (codes "word") json ≡ Some (refusal_word refusal)
     → answer_in ask (refusal_status refusal) json ≡ denied_in (named refusal) json
 unfolding refusal_in
-refused ask refusal json is numbered worded = rw (not_ok refusal, numbered, worded, told refusal is) refl
+refused ask refusal json is numbered worded = rw (not_ok refusal, numbered, worded, stated refusal is) refl
 
--- ---- a refusal of which no more is told
+-- ---- a refusal of which no more is stated
 
 -- the refusal has no more to tell
 abbrev IsPlainRefusal : Refusal → Type 0
@@ -422,7 +421,7 @@ body_reads ask BadField is =
     ((key (codes "kind") refl, key (codes "bad-field") refl, bad_body_plain), refl)
     (omega arith) refl refl (fault_says BadField (codes "bad-field") refl)
 
--- ---- refusals of which more is told
+-- ---- refusals of which more is stated
 
 -- their texts join the same
 more_texts : (o n w t c d e : List ℕ) → o ++ (n ++ (w ++ (t ++ (c ++ (d ++ e))))) ≡ o ++ n ++ w ++ t ++ c ++ d ++ e
@@ -527,7 +526,7 @@ read_as_sent : (ask : Ask) (status : ℕ) (body : List ℕ) (out : Option Answer
 read_as_sent ask status body out r answer is written same bytes =
     answers_are_read ask answer out is written (subst (λ (n : ℕ). IsRead ask n (response_of answer).body out) same (subst (λ (text : List ℕ). IsRead ask status text out) bytes r))
 
-pub sent_if : {E : Type 0} (asked ask : Ask) (status : ℕ) (body : List ℕ) (r : Result (Option Told) E) → asked ≡ ask → IfOk r (λ out. IsRead asked status body (option_map answer_of out))
+pub sent_if : {E : Type 0} (asked ask : Ask) (status : ℕ) (body : List ℕ) (r : Result (Option CodeAnswer) E) → asked ≡ ask → IfOk r (λ out. IsRead asked status body (option_map answer_of out))
     → IfOk r (λ out. (answer : Answer) → IsAnswerTo ask answer → IsWritable answer → status ≡ (response_of answer).status → body ≡ (response_of answer).body → option_map answer_of out ≡ Some answer)
 sent_if asked ask status body (Ok out) same is = λ answer is_answer written number bytes. read_as_sent ask status body (option_map answer_of out) (subst (λ (a : Ask). IsRead a status body (option_map answer_of out)) same is) answer is_answer written number bytes
 sent_if asked ask status body (Err fault) same is = tt

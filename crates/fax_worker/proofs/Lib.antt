@@ -1,5 +1,6 @@
 pub mod RowsWorker
 pub mod RowsTraces
+mod RowsSaid
 mod DialLemmas
 mod QueueLemmas
 mod StandLemmas

@@ -1,5 +1,5 @@
 -- Only answers that a queue has are read.
-use Rattle.std.proofs.Common.{◌≡◌, ◌≤◌, ◌&&◌, ◌==◌, ℕ, List, [], ◌∷◌, Bool, true, false, cond, leb, Option, Some, None, option_and_then, codes, refl, sym, ap, ◌∙◌, subst}
+use Rattle.std.proofs.Common.{◌≡◌, ◌≤◌, ◌&&◌, ◌==◌, ℕ, List, [], ◌∷◌, Bool, true, false, cond, Option, Some, None, option_and_then, codes, refl, sym, ◌∙◌, subst}
 use Rattle.std.proofs.lemmas.Bool.{and_parts, eqb-true, leb-true}
 use Rattle.std.specs.List.{find}
 use Rattle.std.specs.Option.{option_map}
@@ -22,10 +22,10 @@ use Rattle.fax_core.specs.Reply.{Handed, Reply, NoneToSend, Given, Called, Confi
 use Rattle.fax_core.specs.Run.{Answer, Replied, Denied}
 use Rattle.fax_ask.specs.Report.{bool_at, number_at, text_at, within}
 use Rattle.fax_worker.specs.Answer.{answer_of}
-use Rattle.fax_worker.specs.declared.answer.Answer.{Answer as Told}
+use Rattle.fax_worker.specs.declared.answer.Answer.{Answer as CodeAnswer}
 use Rattle.fax_worker.specs.declared.reading.TheConstants.{REFUSALS}
 use Rattle.fax_worker.specs.Join.{response_of}
-use Rattle.fax_worker.specs.Reading.{HandedParts, IsRead, answer_in, bad_body_in, called_in, confirmed_in, denied_in, dial_in, fault_in, floored_in, handed_from, handed_in, handed_of, held_in, is_handed, is_told, is_zero, npages_in, parts_in, refusal_in, refusal_told, reply_in, report_reply_in, stands_in, work_in}
+use Rattle.fax_worker.specs.Reading.{IsRead, answer_in, called_in, confirmed_in, denied_in, dial_in, fault_in, floored_in, handed_from, handed_in, handed_of, held_in, is_handed, is_stated, is_zero, npages_in, parts_in, refusal_in, refusal_stated, reply_in, report_reply_in, stands_in}
 use Rattle.fax_worker.specs.Replies.{IsAnswerTo, IsRefusal, IsReplyTo, IsReportReply, IsStanding, OnlyAnswersAreRead}
 use Rattle.fax_worker.specs.Sayable.{IsHanded}
 
@@ -176,9 +176,9 @@ all_known = (λ e. cc, (λ e. cc, (λ e. cc, (λ e. cc, (λ e. cc, (λ e. cc, (�
 refusal_read : (status : ℕ) (json : Data) (refusal : Refusal) → refusal_in status json ≡ Some refusal → (status ≡ refusal_status refusal) × (refusal ≡ Unavailable → ⊥)
 unfolding refusal_in
 refusal_read status json refusal e =
-    let n = taken (λ (number : ℕ). option_and_then (refusal_told status number) (text_at (codes "word") json)) (number_at (codes "no") json) refusal e in
-    let w = taken (refusal_told status n.0) (text_at (codes "word") json) refusal n.2 in
-    let f = found_of (is_told status n.0 w.0) REFUSALS refusal all_known w.2 in
+    let n = taken (λ (number : ℕ). option_and_then (refusal_stated status number) (text_at (codes "word") json)) (number_at (codes "no") json) refusal e in
+    let w = taken (refusal_stated status n.0) (text_at (codes "word") json) refusal n.2 in
+    let f = found_of (is_stated status n.0 w.0) REFUSALS refusal all_known w.2 in
     let outer = and_parts ((refusal_status refusal == status) && (refusal_number refusal == n.0)) (bytes_eq (refusal_word refusal) w.0) f.0 in
     let inner = and_parts (refusal_status refusal == status) (refusal_number refusal == n.0) outer.0 in
     (sym (eqb-true (refusal_status refusal) status inner.0), f.1)
@@ -228,7 +228,7 @@ only_answers_are_read ask status body answer r =
     let j = taken (answer_in ask status) r.json answer (sym r.read) in
     answer_read ask status j.0 answer (status == 200) refl j.2
 
-pub only_if : {E : Type 0} (asked ask : Ask) (status : ℕ) (body : List ℕ) (r : Result (Option Told) E) → asked ≡ ask → IfOk r (λ out. IsRead asked status body (option_map answer_of out))
+pub only_if : {E : Type 0} (asked ask : Ask) (status : ℕ) (body : List ℕ) (r : Result (Option CodeAnswer) E) → asked ≡ ask → IfOk r (λ out. IsRead asked status body (option_map answer_of out))
     → IfOk r (λ out. (answer : Answer) → option_map answer_of out ≡ Some answer → IsAnswerTo ask answer × (status ≡ (response_of answer).status))
 only_if asked ask status body (Ok out) same is =
     λ answer e. subst (λ (a : Ask). IsAnswerTo a answer × (status ≡ (response_of answer).status)) same

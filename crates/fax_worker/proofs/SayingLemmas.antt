@@ -1,20 +1,20 @@
 -- What a worker says is read as what it meant.
-use Rattle.std.proofs.Common.{◌≡◌, ◌≢◌, ◌≤◌, ◌<◌, ◌^◌, ◌&&◌, ◌==◌, ℕ, List, [], ◌∷◌, ◌++◌, length, get_or, Bool, true, false, not, cond, eqb, leb, Option, Some, None, IsUtf8, codes, decimal, refl, sym, ap, ◌∙◌, subst, arith, lit≤}
-use Rattle.std.proofs.lemmas.Bool.{and_from, and_parts, eqb-true, le-leb, lt-ltb, ne_eqb, cases_Bool}
+use Rattle.std.proofs.Common.{◌≡◌, ◌≤◌, ◌<◌, ◌^◌, ◌&&◌, ◌==◌, ℕ, List, [], ◌∷◌, ◌++◌, length, get_or, Bool, true, false, not, leb, Option, Some, IsUtf8, codes, decimal, refl, sym, ap, subst, arith}
+use Rattle.std.proofs.lemmas.Bool.{and_from, and_parts, eqb-true, le-leb, lt-ltb, ne_eqb}
 use Rattle.std.proofs.lemmas.Fmt.{decimal_is_IsNumeral, first_decimal, length-decimal-le}
 use Rattle.std.specs.Prelude.{MatchOption}
 use Rattle.std.proofs.lemmas.Str.Parse.{digit_from_value}
 use Rattle.std.specs.Int.{IsInRange}
 use Rattle.std.specs.Char.{digit_value, is_ascii_digit}
 use Rattle.std.specs.List.{list_all}
-use Rattle.std.specs.Str.Parse.{AllDigits, digits_value}
+use Rattle.std.specs.Str.Parse.{AllDigits}
 use Rattle.fax_value.specs.Limits.{most_pages}
 use Rattle.fax_value.specs.Name.{IsName, is_name, is_name_byte}
-use Rattle.fax_value.specs.Number.{begins_with_zero, number_of, request_number, request_number_of}
+use Rattle.fax_value.specs.Number.{begins_with_zero, request_number_of}
 use Rattle.fax_lines.specs.Reading.{onto}
 use Rattle.fax_job.specs.declared.job.Call.{Call}
 use Rattle.fax_job.specs.declared.job.Call.TheVariants.{Connected, Busy, NoAnswer, NoCarrier, Other}
-use Rattle.fax_core.specs.declared.ask.Ask.TheVariants.{Submission, Bring, OnJob, Mark, Next, OnGrant, GiveUp, Purge}
+use Rattle.fax_core.specs.declared.ask.Ask.TheVariants.{Next, OnGrant, GiveUp}
 use Rattle.fax_core.specs.declared.ask.Ask.{Ask}
 use Rattle.fax_core.specs.declared.report.Ending.{Ending}
 use Rattle.fax_core.specs.declared.report.Ending.TheVariants.{Done, Retry, Fail}
@@ -23,7 +23,7 @@ use Rattle.fax_core.specs.declared.report.Report.{Report}
 use Rattle.fax_core.specs.declared.report.Report.TheVariants.{Call as OfCall, Page, Outcome}
 use Rattle.fax_ask.specs.Ask.{Asks, IsAsk}
 use Rattle.fax_ask.specs.Path.{parts}
-use Rattle.fax_ask.specs.Report.{Reports, call_in, call_named, ending_named, outcome_in, page_in, report_in, upto_in}
+use Rattle.fax_ask.specs.Report.{Reports, call_in, ending_named, outcome_in, page_in, report_in, upto_in}
 use Rattle.fax_ask.specs.Request.{request_of}
 use Rattle.fax_ask.specs.declared.ask.Ask.TheVariants.{Step}
 use Rattle.fax_ask.specs.declared.method.Method.TheVariants.{Post}
@@ -35,7 +35,7 @@ use Rattle.serde_json.specs.Written.{compact_text}
 use Rattle.json.proofs.Printed.Utf8.{IsUtf8-are_ascii, are_ascii}
 use Rattle.fax_worker.proofs.JsonLemmas.{text_is_json}
 use Rattle.fax_worker.specs.Sayable.{IsNumbered, IsSayable, IsSayableOutcome, IsSayableReport}
-use Rattle.fax_worker.specs.Saying.{SaysWhatItMeans, body_of, call_word, ending_word, outcome_json, path_of, report_json, report_word, upto_json}
+use Rattle.fax_worker.specs.Saying.{SaysWhatItMeans, body_of, call_word, ending_word, outcome_json, path_of, report_json, upto_json}
 
 -- ---- paths
 
@@ -190,8 +190,8 @@ outcome_reports o h =
     record {
       json = outcome_json o;
       is_json = text_is_json (outcome_json o)
-        ((ascii (codes "dialed") refl, tt, (ascii (codes "outcome") refl, ascii (ending_word o.ending) (ending_ascii o.ending), (ascii (codes "pages") refl, small, (ascii (codes "reason") refl, h.reason.utf8, tt)))), refl)
-        (omega arith);
+          ((ascii (codes "dialed") refl, tt, (ascii (codes "outcome") refl, ascii (ending_word o.ending) (ending_ascii o.ending), (ascii (codes "pages") refl, small, (ascii (codes "reason") refl, h.reason.utf8, tt)))), refl)
+          (omega arith);
       says = outcome_says o h;
     }
 

@@ -6,10 +6,10 @@ use Rattle.fax_core.specs.Reply as machine
 use Rattle.fax_core.specs.Run.{Answer, Replied, Denied}
 use Rattle.fax_worker.specs.declared.reading.HandedText.{HandedText}
 use Rattle.fax_worker.specs.Reading.{HandedParts}
-use Rattle.fax_worker.specs.declared.answer.Answer.{Answer as Told}
+use Rattle.fax_worker.specs.declared.answer.Answer.{Answer as CodeAnswer}
 use Rattle.fax_worker.specs.declared.answer.Answer.TheVariants.{NoneToSend, Given, Called, Confirmed, Stands, Floored, Refused, Rejected, Busy, PageOrder}
 
-abbrev pub answer_of : Told → Answer
+abbrev pub answer_of : CodeAnswer → Answer
 answer_of NoneToSend = Replied machine.NoneToSend
 answer_of (Given handed) = Replied (machine.Given handed)
 answer_of (Called stop) = Replied (machine.Called stop)

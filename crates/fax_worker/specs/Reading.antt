@@ -1,5 +1,5 @@
 -- What a worker reads of replies, which are JSON (RFC 8259). Other keys are ignored.
-use Rattle.std.specs.Prelude.{◌≡◌, ⊤, ℕ, Bool, false, ◌&&◌, ◌==◌, List, codes, Option, Some, None, nat_le, option_and_then, if◌then◌else◌}
+use Rattle.std.specs.Prelude.{◌≡◌, ℕ, Bool, false, ◌&&◌, ◌==◌, List, codes, Option, Some, None, nat_le, option_and_then, if◌then◌else◌}
 use Rattle.std.specs.List.{find}
 use Rattle.std.specs.Option.{option_map}
 use Rattle.std.specs.Str.{bytes_eq}
@@ -106,14 +106,14 @@ reply_in other json = None
 -- ---- refused requests
 
 -- the refusal has this status, number and word
-abbrev pub is_told : ℕ → ℕ → List ℕ → Fault → Bool
-is_told status number word refusal = (refusal_status refusal == status) && (refusal_number refusal == number) && bytes_eq (refusal_word refusal) word
+abbrev pub is_stated : ℕ → ℕ → List ℕ → Fault → Bool
+is_stated status number word refusal = (refusal_status refusal == status) && (refusal_number refusal == number) && bytes_eq (refusal_word refusal) word
 
-abbrev pub refusal_told : ℕ → ℕ → List ℕ → Option Fault
-refusal_told status number word = find (is_told status number word) REFUSALS
+abbrev pub refusal_stated : ℕ → ℕ → List ℕ → Option Fault
+refusal_stated status number word = find (is_stated status number word) REFUSALS
 
 unfoldable pub refusal_in : ℕ → Data → Option Fault
-refusal_in status json = option_and_then (λ number. option_and_then (refusal_told status number) (text_at (codes "word") json)) (number_at (codes "no") json)
+refusal_in status json = option_and_then (λ number. option_and_then (refusal_stated status number) (text_at (codes "word") json)) (number_at (codes "no") json)
 
 -- the fault of a body, by its kind, and by its line where it has one
 abbrev pub is_kind : List ℕ → LineKind → Bool
@@ -128,12 +128,12 @@ is_fault word fault = bytes_eq (body_word fault) word
 abbrev pub fault_named : List ℕ → Option BodyFault
 fault_named word = find (is_fault word) FAULTS
 
-abbrev pub fault_told : Option ℕ → List ℕ → Option BodyFault
-fault_told None kind = fault_named kind
-fault_told (Some line) kind = option_map (Line line) (kind_named kind)
+abbrev pub fault_stated : Option ℕ → List ℕ → Option BodyFault
+fault_stated None kind = fault_named kind
+fault_stated (Some line) kind = option_map (Line line) (kind_named kind)
 
 unfoldable pub fault_in : Data → Option BodyFault
-fault_in json = option_and_then (fault_told (number_at (codes "line") json)) (text_at (codes "kind") json)
+fault_in json = option_and_then (fault_stated (number_at (codes "line") json)) (text_at (codes "kind") json)
 
 abbrev pub bad_body_in : Data → Option Answer
 bad_body_in json = option_map (λ fault. Denied (BadBody fault) NoKeys) (fault_in json)
@@ -141,7 +141,7 @@ bad_body_in json = option_map (λ fault. Denied (BadBody fault) NoKeys) (fault_i
 abbrev pub held_in : Data → Option Answer
 held_in json = option_and_then (λ called. option_map (λ handed. Denied ModemBusy (HeldGrant called handed)) (handed_in json)) (bool_at (codes "called") json)
 
--- what is told of some refusals has to be there
+-- some refusals have details, which must be there
 abbrev pub denied_in : Fault → Data → Option Answer
 denied_in (BadBody fault) json = bad_body_in json
 denied_in Rejected json = option_map (λ notice. Denied Rejected (Notice notice)) (text_at (codes "notice") json)
@@ -162,7 +162,7 @@ abbrev pub IsJsonIfSome : List ℕ → Option Data → Type 0
 IsJsonIfSome body None = IsNoJson body
 IsJsonIfSome body (Some json) = IsJson body json
 
--- the answer of a reply is that of its JSON; where there is none, the reply has no JSON or its JSON no answer
+-- the answer in a reply is the one in its JSON; there is none if the body is no JSON, or the JSON has none
 pub record IsRead (ask : Ask) (status : ℕ) (body : List ℕ) (answer : Option Answer) : Type 0 where
   pub json : Option Data
   pub is_json : IsJsonIfSome body json

@@ -12,7 +12,6 @@ use Rattle.fax_core.specs.declared.report.Report.{Report}
 use Rattle.fax_core.specs.declared.report.Report.TheVariants as report
 use Rattle.fax_core.specs.Reply.{Reply, NoneToSend, Given, Called, Confirmed, Stands, Floored, Keys, NoKeys, Notice, HeldGrant, Pages}
 use Rattle.fax_core.specs.Run.{Answer, Replied, Denied}
-use Rattle.fax_ask.specs.Response.{Response}
 use Rattle.fax_worker.specs.Join.{response_of}
 use Rattle.fax_worker.specs.Reading.{IsRead}
 use Rattle.fax_worker.specs.Sayable.{IsHanded}
@@ -39,7 +38,7 @@ IsReplyTo (OnGrant grant r) reply = IsReportReply r reply
 IsReplyTo (GiveUp upto) (Floored floor) = ⊤
 IsReplyTo ask other = ⊥
 
--- what is told of a refusal; `Unavailable` is none, since the request may be accepted later
+-- a refusal and its details; `Unavailable` is no answer, since the request may be accepted later
 abbrev pub IsRefusal : Refusal → Keys → Type 0
 IsRefusal (BadBody fault) NoKeys = ⊤
 IsRefusal Rejected (Notice text) = ⊤

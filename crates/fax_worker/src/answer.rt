@@ -23,9 +23,9 @@ pub enum Answer {
     Stands { job: u32, state: u8 },
     /// Through which number the client has given up its replies.
     Floored { floor: u64 },
-    /// The request is refused, and no more is told.
+    /// The request is refused, without details.
     Refused(Refusal),
-    /// The destination isn't served, with the notice of its rule.
+    /// The number isn't served, with the notice of its rule.
     Rejected { notice: String },
     /// The modem holds a grant: whether a call was reported on it, and the grant.
     Busy { called: bool, handed: Handed },

@@ -1,7 +1,7 @@
 //! Faults of bodies, by the words that replies have for them.
 
 ghost use Rattle.std.specs.Prelude.{◌≡◌};
-ghost use Rattle.fax_worker.specs.Reading.{fault_told, is_fault, is_kind, kind_named, fault_named};
+ghost use Rattle.fax_worker.specs.Reading.{fault_stated, is_fault, is_kind, kind_named, fault_named};
 
 use fax_job::{BodyFault, LineKind, OrderFault};
 
@@ -41,8 +41,8 @@ static FAULTS: [BodyFault; 21] = [
 ];
 
 /// The fault of a body that a reply states by its kind, and by its line where it has one.
-pub(crate) fn fault_told(line: Option<u64>, kind: &str) -> Option<BodyFault>
-    ensures { result ≡ fault_told line kind.now }
+pub(crate) fn fault_stated(line: Option<u64>, kind: &str) -> Option<BodyFault>
+    ensures { result ≡ fault_stated line kind.now }
 {
     match line {
         Some(line) => Some(BodyFault::Line {

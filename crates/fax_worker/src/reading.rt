@@ -1,7 +1,7 @@
 //! Answers read from replies.
 //!
-//! A worker takes a reply as the queue's answer only if its status and its JSON (RFC 8259) are those that the queue has for
-//! the request. All else, as a proxy's page or half a reply, says nothing.
+//! A reply is the queue's answer only if its status and its JSON (RFC 8259) are those that the queue has for the request.
+//! Anything else, such as a proxy's page or half a reply, is no answer.
 
 ghost use Rattle.std.specs.Prelude.{◌≡◌, ◌≤◌, IfOk, IfSome, Some, option_and_then};
 ghost use Rattle.std.specs.Option.{option_copied, option_map};
@@ -11,14 +11,14 @@ ghost use Rattle.fax_core.specs.Run.{Answer as Response, Replied};
 ghost use Rattle.fax_worker.specs.Answer.{answer_of, parts_of};
 ghost use Rattle.fax_worker.specs.Join.{response_of};
 ghost use Rattle.fax_worker.specs.Replies.{IsAnswerTo, IsWritable};
-ghost use Rattle.fax_worker.specs.Reading.{IsJsonIfSome, IsRead, answer_in, bad_body_in, called_in, confirmed_in, denied_in, floored_in, handed_in, handed_of, held_in, is_told, is_zero, npages_in, parts_in, refusal_in, refusal_told, reply_in, report_reply_in, stands_in, work_in};
+ghost use Rattle.fax_worker.specs.Reading.{IsJsonIfSome, IsRead, answer_in, bad_body_in, called_in, confirmed_in, denied_in, floored_in, handed_in, handed_of, held_in, is_stated, is_zero, npages_in, parts_in, refusal_in, refusal_stated, reply_in, report_reply_in, stands_in, work_in};
 ghost use Rattle.fax_job.specs.declared.refusal.Refusal.TheVariants.{ModemBusy, PageOrder, Rejected};
 ghost use Rattle.serde_json.specs.Errors.{IsMemory};
 ghost use Rattle.serde_json.specs.Find.{get};
 ghost use Rattle.serde_json.specs.View.{view};
 
 use crate::answer::Answer;
-use crate::body_fault::fault_told;
+use crate::body_fault::fault_stated;
 use crate::grant::Handed;
 use crate::pending::Pending;
 use fax_core::{Ask, Report};
@@ -96,12 +96,7 @@ impl Pending {
 }
 
 /// The answer to a request, in a reply of this status and body.
-fn read(
-    alloc: Global,
-    ask: &Ask,
-    status: u16,
-    body: &[u8],
-) -> Result<Option<Answer>, AllocError>
+fn read(alloc: Global, ask: &Ask, status: u16, body: &[u8]) -> Result<Option<Answer>, AllocError>
     ensures { IfOk result (λ read. IsRead ask.now status body.now (option_map answer_of read)) }
 {
     let Some(json) = read_json(alloc, body)? else {
@@ -222,21 +217,21 @@ fn refusal_in(status: u16, json: &Value) -> Option<Refusal>
 {
     let number = number_at(json, "no")?;
     let word = text_at(json, "word")?;
-    refusal_told(status, number, word)
+    refusal_stated(status, number, word)
 }
 
 /// The refusal of this status, number and word.
-fn refusal_told(status: u16, number: u64, word: &str) -> Option<Refusal>
-    ensures { result ≡ refusal_told status number word.now }
+fn refusal_stated(status: u16, number: u64, word: &str) -> Option<Refusal>
+    ensures { result ≡ refusal_stated status number word.now }
 {
     REFUSALS
         .iter()
         .copied()
-        .find(|refusal| is_told(*refusal, status, number, word))
+        .find(|refusal| is_stated(*refusal, status, number, word))
 }
 
-fn is_told(refusal: Refusal, status: u16, number: u64, word: &str) -> bool
-    ensures { result ≡ is_told status number word.now refusal }
+fn is_stated(refusal: Refusal, status: u16, number: u64, word: &str) -> bool
+    ensures { result ≡ is_stated status number word.now refusal }
 {
     refusal.status() == status && u64::from(refusal.number()) == number && refusal.word() == word
 }
@@ -259,7 +254,7 @@ fn bad_body_in(json: &Value) -> Option<Answer>
     ensures { option_map answer_of result ≡ bad_body_in (view json.now) }
 {
     let kind = text_at(json, "kind")?;
-    let fault = fault_told(number_at(json, "line"), kind)?;
+    let fault = fault_stated(number_at(json, "line"), kind)?;
     Some(Answer::Refused(Refusal::BadBody(fault)))
 }
 
@@ -337,13 +332,7 @@ fn handed_of(alloc: Global, parts: HandedText<'_>) -> Result<Option<Handed>, All
     ensures { IfOk result (λ read. read ≡ handed_of (parts_of parts.entry)) }
 {
     match Dial::read(alloc, parts.number) {
-        Ok(number) => Ok(Handed::new(
-            parts.grant,
-            parts.job,
-            number,
-            parts.from,
-            parts.to,
-        )),
+        Ok(number) => Ok(Handed::new(parts.grant, parts.job, number, parts.from, parts.to)),
         Err(TextFault::NoMemory) => Err(AllocError),
         Err(TextFault::Bad) => Ok(None),
     }

@@ -1,8 +1,6 @@
-use Rattle.std.proofs.Common.{rules, ◌≡◌, ◌<◌, ℕ, Option, Some, None, arith}
-use Rattle.fax_core.specs.declared.ask.Ask.{Ask}
+use Rattle.std.proofs.Common.{rules, ◌≡◌, ◌<◌, Some, None}
 use Rattle.fax_worker.proofs.ActingLemmas.{begun}
-use Rattle.fax_worker.specs.Acting.{HasBegun, request_of}
-use Rattle.fax_worker.specs.Worker.{Pending, Worker}
+use Rattle.fax_worker.specs.Acting.{request_of}
 use Rattle.fax_worker.proofs.worker.Worker.begin.Goals as goal
 
 pub returns-clause-begun : goal.returns-clause-begun
