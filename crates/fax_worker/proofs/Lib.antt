@@ -1,5 +1,6 @@
 pub mod RowsWorker
 pub mod RowsTraces
+mod RowsSaid
 mod DialLemmas
 mod QueueLemmas
 mod StandLemmas
@@ -9,3 +10,9 @@ mod BoundLemmas
 mod JobLemmas
 mod OrderLemmas
 mod JoinLemmas
+mod ActingLemmas
+mod ReasonLemmas
+pub mod JsonLemmas
+mod SayingLemmas
+mod AnswerLemmas
+mod OnlyLemmas

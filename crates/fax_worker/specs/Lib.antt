@@ -3,3 +3,9 @@ pub mod Trace
 pub mod Transmitted
 pub mod Join
 pub mod Laws
+pub mod Sayable
+pub mod Acting
+pub mod Reading
+pub mod Answer
+pub mod Saying
+pub mod Replies

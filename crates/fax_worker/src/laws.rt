@@ -4,6 +4,8 @@
 
 ghost use Rattle.fax_worker.specs.Join.{AnswersAreReplies, SessionsAreTraces};
 ghost use Rattle.fax_worker.specs.Laws.{InOrderAtTheReceiver, NumbersAreUsedOnce, OnceAtTheReceiver, ReportsWillBeAccepted, TracesAgree, TransmitsTheNext};
+ghost use Rattle.fax_worker.specs.Replies.{AnswersAreRead, OnlyAnswersAreRead};
+ghost use Rattle.fax_worker.specs.Saying.{SaysWhatItMeans};
 
 /// Whenever nothing is unanswered, a worker that holds a grant and the queue agree about it: it is open, with the same
 /// job, number to dial, pages and call, and as many pages are confirmed as the worker has reported. Each report that a
@@ -37,4 +39,16 @@ pub fn in_order_at_the_receiver()
 pub fn traces_are_histories()
     ensures replies { AnswersAreReplies }
     ensures sessions { SessionsAreTraces }
+{}
+
+/// The queue reads path and body of a worker's request as the request that was meant.
+pub fn says_what_it_means()
+    ensures { SaysWhatItMeans }
+{}
+
+/// From the bytes that the queue sends for an answer a worker reads that answer. All that it reads are answers that a
+/// queue has for the request, each under the answer's own status. `Unavailable` is none.
+pub fn answers_are_read()
+    ensures sent { AnswersAreRead }
+    ensures only { OnlyAnswersAreRead }
 {}
