@@ -39,7 +39,7 @@ _faxq() {
     done
     case $before:$command in
         --folder:* | --ca:* | --setup:* | --controls:*) words=$(compgen -f -- "$word") ;;
-        *:) words=$(compgen -W "$commands --server --client --folder --ca --limit --pause --help" -- "$word") ;;
+        *:) words=$(compgen -W "$commands --server --desk --client --folder --ca --limit --pause --help" -- "$word") ;;
         *:submit)
             words=$(compgen -W "--pages --modem -i -P -t -T -a -k --help" -- "$word")
             [[ $word == -* ]] || words=$(compgen -f -- "$word")

@@ -19,12 +19,14 @@ import secrets
 import socketserver
 import struct
 import subprocess
+import sys
 import threading
 import time
 import zlib
 
+from .bad_line import line_to
 from .runner import group
-from .shared import (MANY, SETUP, TOP, Server, answer_to, attempt, expect, expect_same, free_port, get, option, post,
+from .shared import (EXAMPLES, MANY, SETUP, TOP, Server, answer_to, attempt, expect, expect_same, free_port, get, option, post,
                      rows_of_copy, said, wants, within)
 
 check = group("desk", "Has the desk submit documents once, over kills, refuse hostile files, and keep users apart.", "waiting")
@@ -658,6 +660,44 @@ def described(folder):
         expect_same(len(client.call("list")[1]["faxes"]), 2, "the faxes")
         served = desk.ask("GET", "/static/openapi.json", user=None)
         expect_same(served[1], client.all, "the description that the desk gives out")
+
+
+@check
+def by_faxq(folder):
+    """`faxq submit` uploads a document to the desk once, over a bad line and kills, and prints its job; what can't be a fax is
+    refused."""
+    with office(folder, user="anna") as (server, desk), line_to(desk.port, 3, 1) as (port, _):
+        (folder / "letter.ps").write_bytes(TWO_PAGES)
+        (folder / "page.html").write_bytes(b"<html>")
+
+        def start(*words):
+            own = "--server", f"http://127.0.0.1:{server.port}", "--desk", f"http://127.0.0.1:{port}", "--folder", folder / "faxq"
+            return subprocess.Popen([sys.executable, EXAMPLES / "faxq", *own, "--limit", "2", "--pause", "0.1", "submit", *words],
+                                    stdin=subprocess.DEVNULL, stdout=subprocess.PIPE, stderr=subprocess.PIPE, text=True, cwd=folder)
+
+        def says(*words):
+            process = start(*words)
+            out, err = process.communicate(timeout=PATIENCE)
+            return process.returncode, out, err
+
+        words, out = ("5550111", "letter.ps", "-i", "Letter", "-a", "now + 2 hours"), ""
+        for _ in range(5):
+            process = start(*words)
+            time.sleep(0.3)
+            process.kill()
+            out = out or process.communicate()[0]
+            if out:  # it had its job before it was killed
+                break
+        expect_same(out or says(*words)[1], "1\n", "the job of a fax that was begun")
+        job = key_lines(server, 1)
+        expect_same((job["number"], job["jobtag"], job["totpages"], job["state"]), ("5550111", "Letter", "2", "2"), "the job")
+        expect_same(says("5550111", "letter.ps")[:2], (0, "2\n"), "another fax")
+        for words, status, said_of in ((("5550111", "page.html"), 1, "refused: The file is a web page"), (("x", "letter.ps"), 1, "refused: The number"),
+                                       (("5550111", "none.ps"), 2, "none.ps: No such file"), (("5550111", "letter.ps", "-P", "3"), 2, "no priority")):
+            code, out, err = says(*words)
+            expect((code, out) == (status, "") and said_of in err, f"{words} ends with {code}, and says {out!r} and {err!r}")
+        expect_same(rows_of_copy(folder / "queue.db", "SELECT count(*) FROM jobs"), [(2,)], "the jobs")
+        expect(not list((folder / "faxq/desk").iterdir()), "a fax that is submitted is kept")
 
 
 @check

@@ -145,6 +145,8 @@ def login_at(host):
 class Queue:
     """Who asks, and where. `tell` gets a text for people."""
 
+    kind, is_own = "fax queue", staticmethod(is_answer)
+
     def __init__(self, server, client=None, ca=None, limit=10, pause=2, tell=lambda text: None):
         self.url = server.rstrip("/")
         at = urllib.parse.urlsplit(self.url)
@@ -205,13 +207,13 @@ class Queue:
         if form == "application/json":
             with contextlib.suppress(ValueError, RecursionError):
                 received = json.loads(text)
-        if is_answer(method, path, status, form, received if isinstance(received, dict) else {}, text):
+        if self.is_own(method, path, status, form, received if isinstance(received, dict) else {}, text):
             return status, text
         if status >= 500:
             raise Lost(f"the reply is {status}")
         if status in (401, 403):
             raise Fault(f"{self.host} doesn't let '{self.client}' in by the name and password of ~/.netrc: {status}")
-        raise Fault(f"{self.url} isn't a fax queue: it answers {status} {form}")
+        raise Fault(f"{self.url} isn't a {self.kind}: it answers {status} {form}")
 
     def ask(self, method, path, body=None, fields=()):
         """The queue's reply, however often the line fails; and how often it was asked."""
@@ -240,6 +242,16 @@ class Queue:
     def listing(self):
         """The lines of all jobs, as the queue prints them."""
         return self.text("/jobs")
+
+
+class Desk(Queue):
+    """The desk in place of the queue. Its own replies have a fax or a fault."""
+
+    kind = "fax desk"
+
+    @staticmethod
+    def is_own(_method, _path, status, _form, received, _text):
+        return isinstance(received.get("fault"), str) if status >= 400 else type(received.get("id")) is int
 
 
 class Impatient(Queue):
@@ -354,6 +366,17 @@ def without_first(data, places, order, first):
 
 
 # ---- bodies
+
+def form_of(fields, files):
+    """The body of a form (RFC 7578), and its type. A file has a name and its bytes."""
+    mark = secrets.token_hex(16)
+    parts = [(f'form-data; name="{name}"', str(value).encode()) for name, value in fields.items()]
+    for name, data in files:
+        quoted = "".join(letter for letter in name if letter.isprintable()).replace("\\", "/").replace('"', "'")
+        parts.append((f'form-data; name="file"; filename="{quoted}"', data))
+    body = b"".join(f"--{mark}\r\nContent-Disposition: {head}\r\n\r\n".encode() + data + b"\r\n" for head, data in parts)
+    return body + f"--{mark}--\r\n".encode(), f"multipart/form-data; boundary={mark}"
+
 
 def lines(pairs):
     """Key lines. A value stands in one line: a line feed in it would begin another."""

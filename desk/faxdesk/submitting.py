@@ -3,8 +3,9 @@
 It repeats an upload under its token until the desk answers, so it is one fax."""
 import http.client
 import json
-import secrets
 import time
+
+from .client import form_of
 
 LIMIT = 60  # seconds for one upload
 
@@ -17,20 +18,9 @@ class Away(Exception):
     """Why the desk doesn't answer."""
 
 
-def form(fields, files):
-    """The body of a form (RFC 7578), and its type. A file has a name and its bytes."""
-    mark = secrets.token_hex(16)
-    parts = [(f'form-data; name="{name}"', str(value).encode()) for name, value in fields.items()]
-    for name, data in files:
-        quoted = "".join(letter for letter in name if letter.isprintable()).replace("\\", "/").replace('"', "'")
-        parts.append((f'form-data; name="file"; filename="{quoted}"', data))
-    body = b"".join(f"--{mark}\r\nContent-Disposition: {head}\r\n\r\n".encode() + data + b"\r\n" for head, data in parts)
-    return body + f"--{mark}--\r\n".encode(), f"multipart/form-data; boundary={mark}"
-
-
 def submit(address, user, fields, files, tries=1, pause=5):
     """Submits a fax, and returns its number at the desk. The fields have its token."""
-    body, kind = form(fields, files)
+    body, kind = form_of(fields, files)
     for left in reversed(range(tries)):
         door = http.client.HTTPConnection(*address, timeout=LIMIT)
         try:
