@@ -203,7 +203,8 @@ impl Held {
         Some(self.report(Report::Page(self.next_page())))
     }
 
-    /// The report of the outcome, with the call and the pages as they were reported. It isn't `Done` while a page is left.
+    /// The report of the outcome, with the call and the pages as they were reported. It isn't `Done` while a page is
+    /// left.
     pub(crate) fn outcome_report(&self, ending: Ending, reason: Reason) -> Option<Ask>
         ensures ask { result ≡ outcome_report self.now ending reason }
         ensures sayable { IfSome result (λ ask. IsSayable ask) }

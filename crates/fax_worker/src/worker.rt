@@ -68,7 +68,8 @@ impl Worker {
         }
     }
 
-    /// The worker of a journal that has this, if it could come to be: an unanswered report of a page leaves room to count it.
+    /// The worker of a journal that has this, if there can be such a worker: an unanswered report of a page leaves room to
+    /// count it.
     pub fn restored(
         client: Name,
         last: RequestNumber,
@@ -160,7 +161,7 @@ impl Worker {
     }
 
     /// The unanswered request gets this answer. `look` is what the modem's grant has, if the answer is that the modem is
-    /// busy. With nothing unanswered the worker stays as it was.
+    /// busy. If nothing is unanswered, the worker stays as it was.
     pub fn answered(&mut self, answer: Answer, look: Look)
         ensures answered { (p : Request) → self.old.unanswered ≡ Some p
             → IsAnswered self.old p.number p.ask (answer_of answer) look self.new }
