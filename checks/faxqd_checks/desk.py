@@ -372,47 +372,69 @@ def once(folder):
         expect_same(rows_of_copy(folder / "queue.db", "SELECT count(*) FROM jobs"), [(2,)], "the jobs")
 
 
+class Worker:
+    """worker.sh at a modem that sends each page at once, and writes down which."""
+
+    def __init__(self, folder, port):
+        self.folder, self.process = folder, None
+        (folder / "modem").write_text(f'#!/bin/sh\n[ "$1" != dial ] || echo connected\n[ "$1" != page ] || echo "$2 $3" >> {folder}/pages\n')
+        (folder / "modem").chmod(0o755)
+        self.environment = {**os.environ, "FAXQD": f"http://127.0.0.1:{port}", "WAIT": "0.2", "PAUSE": "0.1", "LIMIT": "5", "no_proxy": "*"}
+        self.start()
+
+    def start(self):
+        self.process = subprocess.Popen([EXAMPLES / "worker.sh", "ttyS0", self.folder / "ttyS0", self.folder / "modem"],
+                                        stdin=subprocess.DEVNULL, stderr=subprocess.DEVNULL, env=self.environment)
+
+    def kill(self):
+        self.process.kill()
+        self.process.wait()
+
+
+def upload_until(ends, desk, user, sent):
+    """Uploads one fax after another, each until it is answered."""
+    while not ends.is_set():
+        token, answered = secrets.token_urlsafe(16), False
+        while not answered:
+            with contextlib.suppress(OSError, http.client.HTTPException, ValueError):
+                status, fax = desk.submit(TEXT, user, token=token)
+                expect(status == 201, f"an upload is answered {status} {fax}")
+                sent.append((user, fax["id"]))
+                answered = True
+            time.sleep(0.05)
+        time.sleep(0.3)
+
+
 @check
 def killed(folder):
-    """Over kills of the desk and of the queue at random moments each upload that is repeated until it is answered is one fax and one
-    job."""
-    chance, sent = random.Random(folder.name), []
-    with office(folder) as (server, desk):
-        ends = threading.Event()
-
-        def uploads(user):
-            """Uploads one fax after another; each until it is answered."""
-            while not ends.is_set():
-                token = secrets.token_urlsafe(16)
-                while True:
-                    with contextlib.suppress(OSError, http.client.HTTPException, ValueError):
-                        status, fax = desk.submit(TEXT, user, token=token)
-                        expect(status == 201, f"an upload is answered {status} {fax}")
-                        sent.append((user, token, fax["id"]))
-                        break
-                    time.sleep(0.05)
-                time.sleep(0.3)
-
+    """Over kills of the desk, the queue and the worker at random moments each upload that is repeated until it is answered is one fax
+    and one job, and its end is told once; a mail that comes again, from a desk that was killed when it was sent, has the same name."""
+    wants("curl", "flock")
+    chance, sent, kills, over = random.Random(folder.name), [], int(option("kills", 200 if said.all else 6)), threading.Event()
+    with MailServer() as mails, office(folder, **mails.settings()) as (server, desk):
+        worker = Worker(folder, server.port)
         with concurrent.futures.ThreadPoolExecutor(3) as pool:
-            tasks = [pool.submit(uploads, user) for user in ("anna", "otto", "chief")]
+            tasks = [pool.submit(upload_until, over, desk, user, sent) for user in ("anna", "otto", "chief")]
             try:
-                for _ in range(int(option("kills", 200 if said.all else 6))):
+                for _ in range(kills):
                     time.sleep(chance.uniform(0.1, 1.5))
-                    if chance.random() < 0.7:
-                        desk.kill()
-                        desk.start()
-                    else:
-                        server.kill()
-                        server.start()
+                    one = chance.choice((desk, desk, server, worker))
+                    one.kill()
+                    one.start()
             finally:
-                ends.set()
+                over.set()
             for task in tasks:
                 task.result()
-        for user, _, number in sent:
-            desk.settled(number, "submitted", user=user)
-        jobs = [desk.fax(number, user)["job"] for user, _, number in sent]
-        expect(len(sent) > 3 and len({number for _, _, number in sent}) == len(sent) == len(set(jobs)), f"the faxes are {sent}")
+        try:
+            within("all faxes are sent", lambda: all(desk.fax(number, user)["state"] == "done" for user, number in sent), 10 * PATIENCE)
+            within("all mails", lambda: len({mail["Message-ID"] for _, mail in mails.mails}) >= len(sent))
+        finally:
+            worker.kill()
+        jobs = {desk.fax(number, user)["job"] for user, number in sent}
+        expect(len(sent) > 3 and len({number for _, number in sent}) == len(sent) == len(jobs), f"the faxes are {sent}")
         expect_same(rows_of_copy(folder / "queue.db", "SELECT count(*) FROM jobs"), [(len(sent),)], "the jobs")
+        told = [mail["Message-ID"] for _, mail in mails.mails]
+        expect(len(set(told)) == len(sent) and len(told) - len(sent) <= kills, f"{len(sent)} ends are told {len(told)} times")
         expect("a fault of the desk" not in desk.errors(), desk.errors()[-3000:])
 
 
