@@ -45,7 +45,7 @@ class Office:
 
     def __enter__(self):
         self.server = self.ends.enter_context(Server(self.folder / "queue.db", *MANY, "--setup", self.folder / "setup"))
-        self.desk = self.ends.enter_context(Desk(self.folder, self.server.port))
+        self.desk = self.ends.enter_context(Desk(self.folder, self.server.port, link=f"https://localhost:{self.proxy.port}"))
         self.ends.callback(self.proxy.stop)
         self.proxy.start(self.server.port, self.desk.port)
         return self

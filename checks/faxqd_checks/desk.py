@@ -3,11 +3,13 @@ repeated, over kills of desk and queue, is one fax, and its end one mail; hostil
 and a failed fax goes on with the pages that are left.
 
 It wants Debian's python3-flask, python3-waitress, python3-pil, bubblewrap, ghostscript, libtiff-tools and paps."""
+import base64
 import concurrent.futures
 import contextlib
 import email
 import email.message
 import email.policy
+import email.utils
 import http.client
 import io
 import itertools
@@ -95,7 +97,8 @@ class MailServer:
                         recipients = []
                     elif verb == b"RCPT":
                         recipients.append(re.search(rb"<(.*)>", line)[1].decode())
-                    self.wfile.write(b"221 ends\r\n" if verb == b"QUIT" else b"250 yes\r\n")
+                    refused = verb == b"RCPT" and "refused" in recipients[-1]
+                    self.wfile.write({b"QUIT": b"221 ends\r\n"}.get(verb, b"550 no\r\n" if refused else b"250 yes\r\n"))
                     if verb == b"QUIT":
                         return
 
@@ -149,7 +152,8 @@ class Desk:
 
     def kill(self):
         self.process.kill()
-        self.process.communicate()
+        self.process.wait()
+        self.process.stdout.close()
 
     def errors(self):
         return (self.folder / "errors").read_text()
@@ -299,6 +303,7 @@ def users(folder):
         seen = [sorted({fax["owner"] for fax in desk.ask("GET", "/faxes", user=user)[1]["faxes"]})
                        for user in ("anna", "otto", "chief")]
         expect_same(seen, [["anna"], ["otto"], ["anna", "chief", "otto"]], "whose faxes are shown")
+        expect_same(desk.ask("GET", "/faxes", Host="evil.example")[0], 421, "another name of the desk")
         for user in None, "anna otto", "../anna", "a" * 33:
             expect_same(desk.ask("GET", "/faxes", user=user)[0], 403, f"the user {user}")
         for fields in ({"Origin": "http://elsewhere.example"}, {"Origin": "null"}, {"Sec_Fetch_Site": "cross-site"},
@@ -492,20 +497,38 @@ def notices(folder):
 
 
 @check
+def notices_off(folder):
+    """What is over while there are no notices isn't told when there are; a recipient whom the mail server refuses for good keeps
+    nothing up."""
+    with MailServer() as mails, office(folder) as (server, desk):
+        desk.submit(b"<html>")
+        desk.settled(1, "unusable")
+        time.sleep(1)
+        desk.kill()
+        with Desk(folder, server.port, **mails.settings(), addresses={"eve": "refused@x"}) as desk:
+            desk.submit(b"<html>", "eve")
+            desk.submit(b"<html>", "otto")
+            within("one mail", lambda: mails.mails)
+            time.sleep(1)
+            expect_same([recipients for recipients, _ in mails.mails], [["otto@office.example"]], "who gets mails")
+
+
+@check
 def mail_server_away(folder):
     """A notice that the mail server doesn't accept is sent later."""
     with MailServer() as mails:
         away = mails.settings()
     with office(folder, **away) as (server, desk):
         desk.submit(b"<html>")
-        within("the fault is logged", lambda: "a notice isn't accepted" in desk.errors())
+        within("the fault is logged", lambda: "the notice of fax 1 isn't accepted" in desk.errors())
         with MailServer(int(away["smtp"].rpartition(":")[2])) as mails:
             within("the mail", lambda: len(mails.mails) == 1)
 
 
 def mailed(desk, message, recipient="5550111@fax.example"):
     """The status of the pipe that makes a fax of a mail, and what it says."""
-    ran = subprocess.run([PYTHON, "-B", "-m", "faxdesk.mail", desk.folder / "desk.toml", recipient], cwd=TOP / "desk",
+    sender = email.utils.parseaddr(str(message["From"]))[1]
+    ran = subprocess.run([PYTHON, "-B", "-m", "faxdesk.mail", desk.folder / "desk.toml", sender, recipient], cwd=TOP / "desk",
                          input=message.as_bytes(), capture_output=True, timeout=PATIENCE)
     return ran.returncode, ran.stderr.decode()
 
@@ -522,6 +545,51 @@ def mail_of(sender, name, *files, **fields):
     return mail
 
 
+# As Apple Mail and mailing lists nest what is attached.
+NESTED = b"""From: anna@office.example
+Message-ID: <nested@x>
+Subject: Nested
+MIME-Version: 1.0
+Content-Type: multipart/signed; protocol="application/pgp-signature"; boundary=s
+
+--s
+Content-Type: multipart/alternative; boundary=a
+
+--a
+Content-Type: text/plain
+
+See below.
+--a
+Content-Type: multipart/mixed; boundary=m
+
+--m
+Content-Type: text/html
+
+<p>See below.<img src="cid:logo">
+--m
+Content-Type: image/png; name=logo.png
+Content-ID: <logo>
+Content-Disposition: inline; filename=logo.png
+
+x
+--m
+Content-Type: application/pdf; name=order.pdf
+Content-Disposition: inline; filename=order.pdf
+Content-Transfer-Encoding: base64
+
+PAGES
+--m--
+
+--a--
+
+--s
+Content-Type: application/pgp-signature; name=signature.asc
+
+-----BEGIN PGP SIGNATURE-----
+--s--
+"""
+
+
 @check
 def mail_to_fax(folder):
     """A mail of a user becomes a fax of its attachments in order, or of its text, once; of anybody else it isn't accepted. What can't be
@@ -535,6 +603,10 @@ def mail_to_fax(folder):
         expect_same((job["totpages"], job["number"], job["jobtag"], job["owner"]), ("3", "5550111", "Order ✓", "anna"), "the job")
         expect_same(mailed(desk, mail_of("o.tto@elsewhere.example", "")), (0, ""), "a mail without attachments")
         expect_same(key_lines(server, desk.settled(2, "submitted", user="otto")["job"])["totpages"], "1", "the pages of a text")
+        pages = base64.encodebytes(converted(folder, "pdf", THREE_PAGES))
+        nested = email.message_from_bytes(NESTED.replace(b"PAGES", pages), policy=email.policy.SMTP)
+        expect_same(mailed(desk, nested), (0, ""), "a mail with a nested attachment, a signature and a logo")
+        expect_same(key_lines(server, desk.settled(3, "submitted")["job"])["totpages"], "3", "the pages of the nested attachment")
         for sender in "eve@elsewhere.example", "otto@office.example", "":
             expect_same(mailed(desk, mail_of(sender, ""))[0], 77, f"a mail of {sender}")
         expect_same(mailed(desk, mail_of("anna@office.example", ""), "sales@fax.example"),
@@ -547,7 +619,7 @@ def mail_to_fax(folder):
         expect_same(mailed(desk, program, "sales@fax.example")[0], 65, "the mail of a program")
         desk.kill()
         expect_same(mailed(desk, letter)[0], 75, "without a desk")
-        expect_same(rows_of_copy(folder / "queue.db", "SELECT count(*) FROM jobs"), [(2,)], "the jobs")
+        expect_same(rows_of_copy(folder / "queue.db", "SELECT count(*) FROM jobs"), [(3,)], "the jobs")
         desk.start()
 
 
@@ -570,7 +642,8 @@ def printer(folder):
         jobs = [key_lines(server, desk.settled(fax, "submitted")["job"]) for fax in (1, 2)]
         expect_same([(job["number"], job["jobtag"], job["totpages"], job["owner"]) for job in jobs],
                     [("+14155550100", "Report", "2", "anna"), ("5550111", "", "2", "anna")], "the jobs")
-        expect_same(prints("Report", file).returncode, 5, "a title without a number")
+        for title in "Report", "5550111 3 pages", "2026-12-24 Report.pdf", "":
+            expect_same(prints(title, file).returncode, 5, f"the title {title!r}")
         desk.kill()
         expect_same(prints("5550111", file).returncode, 6, "without a desk")
         listed = subprocess.run([PYTHON, "-B", TOP / "desk/faxdesk/cups"], capture_output=True, text=True)
@@ -743,8 +816,9 @@ def cover_page(folder):
 def settings(folder):
     """A fault in the settings is one line that names it."""
     wants_all()
-    for text, named in (("pages = 0\n", "pages is to be above 0"), ("page = 5\n", "there is no setting page"), ("listen = 5\n", "listen is no str"),
-                       ("listen = \"here\"\n", "listen is no address"), ("pages = \n", "desk.toml: "), ("server = \"ftp://x\"\n", "is no address")):
+    for text, named in (("pages = 0\n", "pages has to be above 0"), ("page = 5\n", "there is no setting page"), ("listen = 5\n", "listen isn't a text"),
+                       ("listen = \"here\"\n", "listen isn't a host and a port"), ("smtp = \"localhost\"\n", "smtp isn't a host and a port"),
+                       ("pause = nan\n", "pause has to be above 0"), ("notice = \"x\"\n", "notice isn't a list of texts"), ("pages = \n", "desk.toml: "), ("server = \"ftp://x\"\n", "is no address")):
         with attempt(text):
             (folder / "desk.toml").write_text(f'folder = "{folder / "desk"}"\n{text}')
             ran = subprocess.run([PYTHON, "-B", "-m", "faxdesk", folder / "desk.toml"], cwd=TOP / \

@@ -23,13 +23,14 @@ class Proxy:
     """nginx with the site of OPERATIONS.md, in which only addresses and paths of files are replaced. The password of its users is
     `secret`."""
 
-    def __init__(self, folder, *users):
+    def __init__(self, folder, *users, only_desk=()):
         self.folder, self.port, self.log, self.process = folder, free_port(), folder / "fax.log", None
+        self.users, self.only_desk = (*users, *only_desk), only_desk
         folder.chmod(0o755)
         self.does("openssl", "req", "-x509", "-newkey", "ec", "-pkeyopt", "ec_paramgen_curve:P-256", "-nodes", "-keyout",
                   folder / "key", "-out", folder / "pem", "-days", "2", "-subj", "/CN=localhost")
         secret = self.does("openssl", "passwd", "-apr1", "secret")
-        (folder / "users").write_text("".join(f"{user}:{secret}\n" for user in users))
+        (folder / "users").write_text("".join(f"{user}:{secret}\n" for user in self.users))
 
     @staticmethod
     def does(*words):
@@ -42,7 +43,8 @@ class Proxy:
         text = (TOP / "docs/OPERATIONS.md").read_text()
         site = code_of(text, r"# Fax-Client has to be", r"\}\n(?=\n)")
         logs = code_of(text, "log_format fax", r"access_log [^\n]*;")
-        for old, new, times in (("listen 443", f"listen 127.0.0.1:{self.port}", 1), ("/etc/nginx/fax.pem", self.folder / "pem", 1),
+        names = "".join(f"{user} 1;\n" for user in self.users if user != "ttyS0" and user not in self.only_desk)
+        for old, new, times in (("frontdesk  1;", names, 1), ("listen 443", f"listen 127.0.0.1:{self.port}", 1), ("/etc/nginx/fax.pem", self.folder / "pem", 1),
                                 ("/etc/nginx/fax.key", self.folder / "key", 1), ("/etc/nginx/fax.users", self.folder / "users", 1),
                                 ("http://127.0.0.1:4559", f"http://127.0.0.1:{queue}", 2),
                                 ("http://127.0.0.1:4560", f"http://127.0.0.1:{desk}", 1)):
@@ -104,7 +106,7 @@ def recipe(folder):
     reaches the desk with the login as the user."""
     wants("nginx", "openssl")
     (folder / "setup").write_text("Modem: ttyS0\n")
-    proxy = Proxy(folder, "desk", "other", "0", "ttyS0")
+    proxy = Proxy(folder, "desk", "other", "0", "ttyS0", only_desk=("anna",))
     with Server(folder / "queue.db", *MANY, "--setup", folder / "setup") as server, StubDesk() as desk:
         try:
             proxy.start(server.port, desk.port)
@@ -112,6 +114,7 @@ def recipe(folder):
             workers(proxy)
             purges(proxy)
             browsers(proxy, desk)
+            desk_alone(proxy, desk)
         finally:
             proxy.stop()
         listed = answer_to(server.port, get("/jobs", CLOSE))[1].decode()
@@ -195,6 +198,15 @@ def browsers(proxy, desk):
         Asked(proxy, "GET", path, "desk")
     expect(len(desk.seen) == count, f"the desk is asked {desk.seen[count:]}")
     expect(Asked(proxy, "POST", "/faxes", "desk", "x" * 22_020_097).status == 413, "more than 21 MB are taken")
+
+
+def desk_alone(proxy, desk):
+    """Who uses the desk alone reaches nothing of the queue."""
+    expect(Asked(proxy, "GET", "/faxes", "anna").body == b"desk", "a user doesn't reach the desk")
+    for method, path in (("GET", "/jobs"), ("GET", "/jobs/1"), ("POST", "/jobs"), ("POST", "/jobs/1/kill"), ("GET", "/modems"),
+                         ("POST", "/imports"), ("POST", "/numbers/floor"), ("GET", "//jobs"), ("GET", "/faxes/../jobs")):
+        asked = Asked(proxy, method, path, "anna", FAX if method == "POST" else None, fields=named("anna", number=9))
+        is_answered(asked, 403, False, f"{method} {path} of a user of the desk")
 
 
 class StubDesk:

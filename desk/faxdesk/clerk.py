@@ -1,5 +1,5 @@
-"""What the desk does by itself: it makes documents of uploads, submits them to the queue, and looks what becomes of their
-jobs. Killed at any moment, it continues with what it began."""
+"""What the desk does by itself: it makes documents of uploads, submits them to the queue, and watches their jobs. Killed at any
+moment, it continues with what it began."""
 import json
 import logging
 import threading
@@ -11,6 +11,7 @@ from .metrics import Metrics
 from .notices import Notices
 
 log = logging.getLogger("faxdesk")
+RECENT = 60  # seconds for which a fault is shown
 
 
 class Clerk:
@@ -20,7 +21,10 @@ class Clerk:
         self.settings, self.store, self.documents = settings, store, documents
         self.queue = Impatient(settings.server, settings.client)
         self.folder = Folder(settings.place / "requests", log.info)
-        self.trouble, self.metrics, self.notices = "The queue hasn't been asked yet.", Metrics(), Notices(settings, store)
+        # The requests that were sent before, by this desk or by one that was killed.
+        self.sent = {number for number, _ in self.folder.left(self.folder.waiting)}
+        self.queue_trouble, self.last_fault = "The queue hasn't been asked yet.", float("-inf")
+        self.metrics, self.notices = Metrics(), Notices(settings, store)
 
     def start(self):
         for does in self.converts, self.asks, self.notices.tells:
@@ -31,8 +35,19 @@ class Clerk:
             try:
                 does()
             except Exception:
-                log.exception("a fault of the desk")
+                self.has_fault()
             time.sleep(self.settings.pause)
+
+    def has_fault(self):
+        """Logs a fault, which keeps one fax or one look from going on, and not the others."""
+        log.exception("a fault of the desk")
+        self.last_fault = time.monotonic()
+
+    @property
+    def trouble(self):
+        """What is wrong, as a sentence, or nothing."""
+        recent = time.monotonic() - self.last_fault < RECENT
+        return self.queue_trouble or ("The desk has a fault, which its log shows." if recent else "")
 
     # ---- documents
 
@@ -42,6 +57,8 @@ class Clerk:
                 document, pages = self.documents.convert(fax["uploads"].split(), fax["resolution"])
             except Unusable as why:
                 self.store.change(fax["id"], stage="unusable", reason=str(why))
+            except Exception:
+                self.has_fault()
             else:
                 self.store.change(fax["id"], stage="ready", document=document, pages=pages)
 
@@ -53,14 +70,19 @@ class Clerk:
             for fax in self.store.at("ready"):
                 self.keep_submission(fax)
             for number, request in list(self.folder.left(self.folder.waiting)):
-                self.send(number, request)
+                try:
+                    self.send(number, request)
+                except (Lost, Fault):
+                    raise
+                except Exception:
+                    self.has_fault()
             self.look()
         except Lost as why:
-            self.trouble = f"The queue doesn't answer: {why}."
+            self.queue_trouble = f"The queue doesn't answer: {why}."
         except Fault as why:
-            self.trouble = f"The queue can't be asked: {why}."
+            self.queue_trouble = f"The queue can't be asked: {why}."
         else:
-            self.trouble = ""
+            self.queue_trouble = ""
 
     def request(self, words, path, body):
         return {"server": self.queue.url, "client": self.queue.client, "login": self.queue.login, "words": words,
@@ -71,8 +93,8 @@ class Clerk:
         words = ["submit", str(fax["id"])]
         if any(self.folder.left(self.folder.waiting, words=words)):
             return
-        if any(self.folder.left(self.folder.refused, words=words)):  # killed before it was noted
-            self.store.change(fax["id"], stage="refused", reason="The queue refuses it.")
+        if self.folder.was_refused(words=words):  # killed before it was noted
+            self.store.change(fax["id"], stage="refused", reason="The queue refuses it, and may have accepted it before.")
             return
         pairs = [("number", fax["number"]), ("totpages", fax["pages"])]
         if fax["name"]:
@@ -95,8 +117,10 @@ class Clerk:
             if word == "submit":
                 self.store.change(fax, stage="submitted", job=answer["job"])
 
+        before = number in self.sent
+        self.sent.add(number)
         try:
-            self.folder.send(self.queue, number, request, note=note)
+            self.folder.send(self.queue, number, request, before, note)
         except Fault as why:
             if why.status != 1:
                 raise

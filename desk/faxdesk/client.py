@@ -303,17 +303,28 @@ class Folder:
     def left(self, folder, **like):
         """The requests of a folder with these values, by their numbers."""
         for file in sorted(folder.glob("[0-9]*[0-9]"), key=lambda file: int(file.name)):
-            request = json.loads(file.read_text())
-            if all(request[key] == like[key] for key in like):
-                yield file.name, request
+            with contextlib.suppress(FileNotFoundError):  # another thread has sent it
+                request = json.loads(file.read_text())
+                if all(request[key] == like[key] for key in like):
+                    yield file.name, request
+
+    def was_refused(self, **like):
+        """Whether a request with these values was refused, also one whose number is used."""
+        requests = (json.loads(file.read_text()) for file in self.refused.glob("[0-9]*"))
+        return any(all(request[key] == like[key] for key in like) for request in requests)
+
+    def new_number(self):
+        """A number that wasn't used: the seconds since 1970 and eight random digits, or the one after the greatest that waits, so
+        requests are sent in the order in which they were kept."""
+        greatest = max((int(file.name) for file in self.waiting.glob("[0-9]*[0-9]")), default=0)
+        return str(max(int(f"{int(time.time())}{secrets.randbelow(10**8):08}"), greatest + 1))
 
     def keep(self, request):
-        """Keeps a new request under a number that wasn't used: the moment, and eight digits by chance. So it is new also
-        where the folder was lost, or came from a backup, or another machine has the same client. A submission that was
-        refused keeps its number: a late copy of it may still be taken, and they aren't both then."""
+        """Keeps a new request under a number that is new also if the folder was lost or came from a backup, or if another machine has
+        the same client. A submission that was refused keeps its number: a late copy of it may still be accepted, and both aren't."""
         same = {key: request[key] for key in ("server", "client", "words")}
         number = next((name for name, _ in self.left(self.refused, **same)), None)
-        number = number or f"{int(time.time())}{secrets.randbelow(10**8):08}"
+        number = number or self.new_number()
         put(self.waiting / number, json.dumps(request).encode())
         (self.refused / number).unlink(missing_ok=True)
         return number
@@ -348,16 +359,16 @@ def pages_of(file):
     try:
         data = file.read_bytes()
         order = {b"II*\0": "<", b"MM\0*": ">"}[data[:4]]
-        places, place = [], struct.unpack_from(order + "I", data, 4)[0]
+        places, place = {}, struct.unpack_from(order + "I", data, 4)[0]
         while place and place not in places:
-            places.append(place)
+            places[place] = True
             count, = struct.unpack_from(order + "H", data, place)
             place, = struct.unpack_from(order + "I", data, place + 2 + 12 * count)
     except OSError as fault:
         raise Fault(f"{file}: {fault.strerror}", 2) from None
     except (KeyError, struct.error):
         raise Fault(f"{file} isn't a TIFF", 2) from None
-    return data, places, order
+    return data, list(places), order
 
 
 def without_first(data, places, order, first):

@@ -1,21 +1,27 @@
 """Documents: what is uploaded, and the TIFF that a modem sends of it.
 
-Each is stored once, under its SHA-256. A conversion runs in a sandbox (bubblewrap) that has the system's programs, the one
-file and a folder of its own, and neither a network nor the desk's data; and with limits of time, memory and size."""
+Each is stored once, under its SHA-256. A conversion runs in a sandbox (bubblewrap) that has the system's programs, the files of
+one fax and a folder of its own, and neither a network nor the desk's data; and with limits of time, memory and size."""
 import hashlib
+import logging
 import os
 import pathlib
 import shutil
 import subprocess
 import tempfile
+import threading
+import time
+import unicodedata
 
-from .client import pages_of, put, sync, without_first
-from .client import Fault as ClientFault
+from .client import Fault, pages_of, put, sync, without_first
+
+log = logging.getLogger("faxdesk")
 
 HERE = pathlib.Path(__file__).resolve().parent
 LINES = {"fine": 196, "standard": 98}  # to an inch, by ITU-T T.4
 DOTS = 204
-MOST_OUTPUT = 200  # megabytes that a conversion may write
+MOST_OUTPUT = 200  # megabytes of each file that a conversion writes
+MOST_PREVIEWS = 2  # that are made at the same time
 VARIABLES = {"PATH": "/usr/bin", "HOME": "/tmp", "LANG": "C.UTF-8"}
 SEEN = "/usr", "/etc/alternatives", "/etc/fonts", "/etc/ghostscript", "/var/lib/ghostscript", "/var/cache/fontconfig"
 
@@ -33,7 +39,7 @@ def kind_of(head, is_text):
     if head.startswith(b"\x89PNG\r\n\x1a\n") or head.startswith(b"\xff\xd8\xff"):
         return "picture"
     if head.lstrip(b"\xef\xbb\xbf \t\r\n")[:1] == b"<":
-        raise Unusable("The file is a web page. Print it into a PDF.")
+        raise Unusable("The file is a web page. Print it to a PDF.")
     if is_text:
         return "text"
     raise Unusable("The file is none of PDF, PostScript, TIFF, PNG, JPEG and plain text.")
@@ -45,7 +51,12 @@ def is_plain_text(data):
         text = data.decode()
     except UnicodeDecodeError:
         return False
-    return bool(text.strip()) and all(letter.isprintable() or letter in "\t\n\r\f\ufeff" for letter in text)
+    return bool(text.strip()) and not has_control(text, "\t\n\r\f")
+
+
+def has_control(text, but=""):
+    """Whether a text has a control character, or one that isn't assigned, but for these."""
+    return any(unicodedata.category(letter) in ("Cc", "Cn", "Co", "Cs") and letter not in but for letter in text)
 
 
 class Documents:
@@ -56,9 +67,17 @@ class Documents:
         self.uploads, self.made, self.work = (settings.place / name for name in ("uploads", "documents", "work"))
         for folder in self.uploads, self.made:
             folder.mkdir(parents=True, exist_ok=True)
-        shutil.rmtree(self.work, ignore_errors=True)  # what a conversion left that was killed
+        # What a desk left that was killed.
+        shutil.rmtree(self.work, ignore_errors=True)
+        for file in self.uploads.glob(".*"):
+            file.unlink()
         self.work.mkdir()
         sync(settings.place)
+        self.previewing = threading.Semaphore(MOST_PREVIEWS)
+        try:
+            self.run(self.work, [], settings.seconds, "true")
+        except (Unusable, OSError) as fault:
+            raise Fault(f"no sandbox can be made, see the log: {fault}") from None
 
     def store(self, stream):
         """Stores an upload, and returns its SHA-256. A file that is empty or too large is unusable."""
@@ -97,50 +116,48 @@ class Documents:
         """Makes one TIFF of uploads, in their order. Returns its name, and how many pages it has."""
         files = [self.uploads / upload for upload in uploads]
         with tempfile.TemporaryDirectory(dir=self.work) as room:
-            made = self.printed(pathlib.Path(room), files, resolution)
-            try:
-                pages = len(pages_of(made)[1])
-                data = made.read_bytes()
-            except (ClientFault, OSError):
-                pages = 0
-        if not pages:
-            raise Unusable("The file has no page.")
+            made = self.printed(pathlib.Path(room), files, resolution, time.monotonic() + self.settings.seconds)
+            data = made.read_bytes()
+            pages = len(pages_of(made)[1])
         if pages > self.settings.pages:
             raise Unusable(f"The fax has more than {self.settings.pages} pages.")
         return self.keep(data), pages
 
-    def printed(self, room, files, resolution):
-        """Prints files into a TIFF within a folder, each by itself, so that none changes how the next is printed."""
+    def printed(self, room, files, resolution, end):
+        """Prints files into a TIFF within a folder, each by itself, so that none changes how the next is printed. All has to be done
+        by then."""
         made = [f"{place}.tif" for place in range(len(files))]
         for place, name in enumerate(made):
-            self.run(room, files, "gs", "-q", "-dSAFER", "-dBATCH", "-dNOPAUSE", "-sDEVICE=tiffg3", f"-r{DOTS}x{LINES[resolution]}",
+            page = self.page_of(room, files, place, end)
+            self.run(room, files, end - time.monotonic(), "gs", "-q", "-dSAFER", "-dBATCH", "-dNOPAUSE", "-sDEVICE=tiffg3", f"-r{DOTS}x{LINES[resolution]}",
                      f"-sPAPERSIZE={self.settings.paper}", "-dFIXEDMEDIA", "-dFitPage", f"-dLastPage={self.settings.pages + 1}",
-                     f"-sOutputFile={name}", self.page_of(room, files, place))
+                     f"-sOutputFile={name}", page)
             if not (room / name).exists() or not (room / name).stat().st_size:
                 raise Unusable("A file has no page." if len(files) > 1 else "The file has no page.")
-        self.run(room, files, "tiffcp", *made, "fax.tif")
+        self.run(room, files, end - time.monotonic(), "tiffcp", *made, "fax.tif")
         return room / "fax.tif"
 
-    def page_of(self, room, files, place):
+    def page_of(self, room, files, place, end):
         """Makes what ghostscript reads of one of these files. Returns where that is in the sandbox."""
-        data, source, made = files[place].read_bytes(), f"/in/{place}", f"/work/{place}"
+        data, source, made, seconds = files[place].read_bytes(), f"/in/{place}", f"/work/{place}", end - time.monotonic()
         kind = kind_of(data[:1024], is_plain_text(data))
         if kind == "page":
             return source
         if kind == "tiff":
-            self.run(room, files, "tiff2pdf", "-o", made, source)
+            self.run(room, files, seconds, "tiff2pdf", "-o", made, source)
         elif kind == "picture":
-            self.run(room, files, "/usr/bin/python3", "-I", "/picture.py", source, made)
+            self.run(room, files, seconds, "/usr/bin/python3", "-I", "/picture.py", source, made)
         else:
-            self.run(room, files, "sh", "-c", 'exec paps "$1" "$2" > "$3"', "sh", f"--paper={self.settings.paper}", source, made)
+            self.run(room, files, seconds, "sh", "-c", 'exec paps "$1" "$2" > "$3"', "sh", f"--paper={self.settings.paper}", source, made)
         return made
 
-    def run(self, room, files, *words):
-        """Runs a program in the sandbox, which has the files as `/in/0` and so on, and the folder as `/work`."""
+    def run(self, room, files, seconds, *words):
+        """Runs a program in the sandbox for so many seconds at most. It has the files as `/in/0` and so on, and the folder as
+        `/work`."""
         inputs = [word for place, file in enumerate(files) for word in ("--ro-bind", str(file), f"/in/{place}")]
         system = [word for place in SEEN for word in ("--ro-bind-try", place, place)]
         links = [word for name in ("bin", "lib", "lib64") for word in ("--symlink", f"usr/{name}", f"/{name}")]
-        places = ["--dev", "/dev", "--tmpfs", "/tmp", "--ro-bind", str(HERE / "picture.py"), "/picture.py"]
+        places = ["--dev", "/dev", "--size", str(MOST_OUTPUT * 10**6), "--tmpfs", "/tmp", "--ro-bind", str(HERE / "picture.py"), "/picture.py"]
         own = ["--bind", str(room), "/work", "--chdir", "/work"]
         alone = ["--unshare-all", "--die-with-parent", "--new-session", "--clearenv"]
         variables = [word for name, value in VARIABLES.items() for word in ("--setenv", name, value)]
@@ -148,11 +165,15 @@ class Documents:
         limits = ["prlimit", f"--as={self.settings.memory * 10**6}", f"--cpu={self.settings.seconds}",
                   f"--fsize={MOST_OUTPUT * 10**6}", "--core=0", "--"]
         try:
-            ran = subprocess.run([*sandbox, *limits, *words], stdin=subprocess.DEVNULL, capture_output=True,
-                                 timeout=self.settings.seconds)
+            with open(room / "errors", "w+b") as errors:
+                ran = subprocess.run([*sandbox, *limits, *words], stdin=subprocess.DEVNULL, stdout=subprocess.DEVNULL, stderr=errors,
+                                     timeout=max(seconds, 0))
+                errors.seek(max(errors.seek(0, os.SEEK_END) - 1000, 0))
+                said = errors.read().decode(errors="replace")
         except subprocess.TimeoutExpired:
-            raise Unusable(f"The file takes longer than {self.settings.seconds} s to convert.") from None
+            raise Unusable(f"The files take longer than {self.settings.seconds} s to convert.") from None
         if ran.returncode != 0:
+            log.info("%s ends with %s: %r", words[0], ran.returncode, said)
             raise Unusable("The file can't be printed: it is damaged, protected by a password, or too large.")
 
     def rest(self, name, first):
@@ -161,8 +182,12 @@ class Documents:
         return self.keep(without_first(data, places, order, first)), len(places) - first + 1
 
     def preview(self, name, page):
-        """Returns a page of the TIFF of this name as a PNG, half as large."""
-        with tempfile.TemporaryDirectory(dir=self.work) as room:
-            words = "/usr/bin/python3", "-I", "/picture.py", "--page", str(page), "/in/0", "/work/page"
-            self.run(pathlib.Path(room), [self.file(name)], *words)
-            return (pathlib.Path(room) / "page").read_bytes()
+        """Returns a page of the TIFF of this name as a PNG, half as large. It is made once."""
+        made = self.made / f"{name}.{page}.png"
+        with self.previewing:
+            if not made.exists():
+                with tempfile.TemporaryDirectory(dir=self.work) as room:
+                    words = "/usr/bin/python3", "-I", "/picture.py", "--page", str(page), "/in/0", "/work/page"
+                    self.run(pathlib.Path(room), [self.file(name)], self.settings.seconds, *words)
+                    put(made, (pathlib.Path(room) / "page").read_bytes())
+        return made.read_bytes()

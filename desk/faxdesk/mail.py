@@ -1,9 +1,10 @@
 """Makes a fax of a mail, which it reads from standard input, as a mail server's pipe.
 
-    python3 -m faxdesk.mail SETTINGS RECIPIENT < MESSAGE
+    python3 -m faxdesk.mail SETTINGS SENDER RECIPIENT < MESSAGE
 
-The number to dial is before the @ of RECIPIENT, as in 5550111@fax.example. The sender has to be a user: SETTINGS have their
-addresses. The fax has the attachments in order, or the text where there is none; its name is the subject. The same message
+SENDER and RECIPIENT are those of the envelope, which the mail server has to have checked; what the message states as its sender
+doesn't matter. The number to dial is before the @ of RECIPIENT, as in 5550111@fax.example. SENDER has to be a user: SETTINGS
+have their addresses. The fax has the attachments in order, or the text where there is none; its name is the subject. The same message
 again (by its Message-ID) is the same fax. What can't be sent is answered by a mail to the sender, if that is a user.
 
 It ends with 0; with 77 (EX_NOPERM of sysexits.h) if the sender is no user, 65 (EX_DATAERR) if the message has nothing to send
@@ -24,25 +25,33 @@ from .notices import send
 from .settings import read_settings
 from .submitting import Away, Refused, submit
 
-NOT_PRINTED = "message/", "multipart/"
+MOST_NAME = 200  # bytes of a fax's name
+SIGNATURES = "application/pgp-signature", "application/pkcs7-signature", "application/x-pkcs7-signature"
+
+
+def is_attachment(part):
+    """Whether a part of a message is to be sent: it is attached or has a name, and is no signature and no picture of a text."""
+    kind = part.get_content_type()
+    if part.is_multipart() or kind in SIGNATURES:
+        return False
+    if part.get_content_disposition() == "attachment":
+        return True
+    return bool(part.get_filename()) and not (kind.startswith("image/") and part["Content-ID"])
 
 
 def parts_of(message):
-    """The attachments of a message, each with its name; or its text."""
-    found = []
-    for part in message.iter_attachments():
-        data = part.get_payload(decode=True)
-        if data is not None and not part.get_content_type().startswith(NOT_PRINTED):
-            found.append((part.get_filename() or f"part.{part.get_content_subtype()}", data))
+    """The attachments of a message wherever they are in it, each with its name; or its text."""
+    found = [(part.get_filename() or f"part.{part.get_content_subtype()}", part.get_payload(decode=True))
+             for part in message.walk() if is_attachment(part)]
     if not found and (text := message.get_body(("plain",))):
         found.append(("mail.txt", text.get_content().encode()))
     return found
 
 
-def answer(settings, message, why):
+def answer(settings, sender, message, why):
     """A mail to the sender with the reason; not to what was sent by a program (RFC 3834)."""
     mail = email.message.EmailMessage(policy=email.policy.SMTP)
-    mail["From"], mail["To"] = settings.sender, email.utils.parseaddr(message["From"])[1]
+    mail["From"], mail["To"] = settings.sender, sender
     mail["Subject"], mail["Date"] = "Your fax wasn't accepted", email.utils.formatdate()
     mail["Message-ID"], mail["Auto-Submitted"] = email.utils.make_msgid(), "auto-replied"
     if message["Message-ID"]:
@@ -52,11 +61,10 @@ def answer(settings, message, why):
 
 
 def main():
-    words = argparse.ArgumentParser(
-    prog="faxdesk.mail",
-    description=__doc__,
-     formatter_class=argparse.RawDescriptionHelpFormatter)
+    form = argparse.RawDescriptionHelpFormatter
+    words = argparse.ArgumentParser(prog="faxdesk.mail", description=__doc__, formatter_class=form)
     words.add_argument("settings")
+    words.add_argument("sender")
     words.add_argument("recipient")
     said = words.parse_args()
     try:
@@ -66,15 +74,13 @@ def main():
         return os.EX_TEMPFAIL
     data = sys.stdin.buffer.read()
     message = email.message_from_bytes(data, policy=email.policy.default)
-    sender = email.utils.parseaddr(str(message["From"] or ""))[1]
-    user = settings.user_of(sender)
+    user = settings.user_of(said.sender)
     if not user:
-        print(f"faxdesk: {sender or 'the sender'} may not send faxes", file=sys.stderr)
+        print(f"faxdesk: {said.sender or 'the sender'} may not send faxes", file=sys.stderr)
         return os.EX_NOPERM
     token = "mail-" + hashlib.sha256(f"{message['Message-ID'] or data} {said.recipient}".encode()).hexdigest()[:40]
-    number, name = said.recipient.partition("@")[0], str(message["Subject"] or "")
-    while len(name.encode()) > 200:
-        name = name[:-1]
+    number = said.recipient.partition("@")[0]
+    name = str(message["Subject"] or "").encode()[:MOST_NAME].decode(errors="ignore")
     try:
         files = parts_of(message)
         if not files:
@@ -86,7 +92,7 @@ def main():
     except Refused as why:
         try:
             if str(message["Auto-Submitted"] or "no").lower() == "no" and settings.smtp:
-                answer(settings, message, why)
+                answer(settings, said.sender, message, why)
                 return 0
         except (OSError, smtplib.SMTPException) as fault:
             print(f"faxdesk: {fault}", file=sys.stderr)
@@ -95,4 +101,5 @@ def main():
     return 0
 
 
-sys.exit(main())
+if __name__ == "__main__":
+    sys.exit(main())

@@ -1,19 +1,21 @@
 """Notices: what an owner gets when a fax is over, by mail or by a command of the office's own.
 
 A notice is marked as sent after the mail server or the command has accepted it. A desk that is killed between the two sends
-it once more, under the same Message-ID, by which mail servers drop the second."""
+it once more, under the same Message-ID, by which a reader can recognise it."""
 import email.message
 import email.policy
 import email.utils
 import logging
 import smtplib
 import subprocess
+import time
 
 from .sentences import sentence, shown
 from .store import has_failed
 
 log = logging.getLogger("faxdesk")
 LIMIT = 30  # seconds for a mail or a command
+LONGEST = 600  # seconds until a notice that wasn't accepted is sent again
 
 
 def subject(fax):
@@ -51,25 +53,39 @@ def send(settings, mail):
 
 class Notices:
     def __init__(self, settings, store):
-        self.settings, self.store, self.said = settings, store, ""
+        self.settings, self.store = settings, store
+        self.later = {}  # the faxes whose notice wasn't accepted, each with the time of the next try and the pause before it
 
     def tells(self):
-        """Sends what is due. What isn't accepted is sent in a later round."""
-        if not self.settings.smtp and not self.settings.notice:
-            return
+        """Sends what is due. What isn't accepted is sent later, in pauses that grow; what never will be is logged. Without a mail
+        server or a command nothing is kept for the time when there is one."""
         for fax in self.store.to_tell():
-            try:
-                self.tell(fax)
-            except (OSError, smtplib.SMTPException, subprocess.SubprocessError) as fault:
-                if str(fault) != self.said:
-                    log.info("a notice isn't accepted: %s", fault)
-                self.said = str(fault)
-                if not isinstance(fault, smtplib.SMTPRecipientsRefused):  # the next one may be accepted
-                    return
-            else:
+            if not self.settings.smtp and not self.settings.notice:
                 self.store.change(fax["id"], is_told=1)
+            elif self.later.get(fax["id"], (0, 0))[0] <= time.time():
+                self.tell(fax)
 
     def tell(self, fax):
+        try:
+            self.send(fax)
+        except smtplib.SMTPRecipientsRefused as fault:
+            codes = [code for code, _ in fault.recipients.values()]
+            self.put_off(fax, fault, all(500 <= code < 600 for code in codes))
+        except (OSError, smtplib.SMTPException, subprocess.SubprocessError) as fault:
+            self.put_off(fax, fault, False)
+        else:
+            self.later.pop(fax["id"], None)
+            self.store.change(fax["id"], is_told=1)
+
+    def put_off(self, fax, fault, is_final):
+        log.info("the notice of fax %s isn't accepted: %s", fax["id"], fault)
+        if is_final:
+            self.store.change(fax["id"], is_told=1)
+            return
+        pause = min(2 * self.later.get(fax["id"], (0, self.settings.pause))[1], LONGEST)
+        self.later[fax["id"]] = time.time() + pause, pause
+
+    def send(self, fax):
         if self.settings.smtp:
             send(self.settings, message(self.settings, fax))
         else:

@@ -1,5 +1,6 @@
 """The desk's settings: a file of TOML, each value of which has a default."""
 import dataclasses
+import math
 import pathlib
 import re
 import tomllib
@@ -8,11 +9,12 @@ from .client import NAME, Fault
 
 
 PAPERS = "a4", "letter", "legal"
+WORDS = {str: "a text", int: "a whole number", float: "a number", tuple: "a list of texts", dict: "a table of texts"}
 
 
 @dataclasses.dataclass(frozen=True)
 class Settings:
-    # Where the desk listens. It believes a proxy on this machine alone.
+    # Where the desk listens. It trusts only a proxy on this machine to state who the user is.
     listen: str = "127.0.0.1:4560"
     # The queue, and the desk's name as its client.
     server: str = "http://127.0.0.1:4559"
@@ -23,22 +25,22 @@ class Settings:
     administrators: tuple = ()
     # Who asks, where no proxy says so: for one person on one machine. Without it such a request is refused.
     user: str = ""
-    # Limits of a file: its megabytes, its pages, and the seconds and megabytes of memory that its conversion may take.
+    # Limits of a fax: megabytes of each file, pages, and the seconds and megabytes of memory that its conversion may take.
     megabytes: int = 20
     pages: int = 100
     seconds: int = 60
     memory: int = 1024
     # The paper: a4, letter or legal.
     paper: str = "a4"
-    # Mail to owners when a fax is over: the mail server as host:port, the sender, and the domain of the users' addresses. A user
-    # whose address isn't the name at that domain is in the table `addresses`.
+    # Mail to owners when a fax is over: the mail server as host:port, which asks for neither TLS nor a login, as one on this machine;
+    # the sender, and the domain of the users' addresses. A user whose address isn't the name at that domain is in `addresses`.
     smtp: str = ""
     sender: str = "fax@localhost"
     domain: str = "localhost"
     addresses: dict = dataclasses.field(default_factory=dict)
     # Without smtp, a command that gets the number of the fax, its owner and `done` or `failed` as arguments, and the text.
     notice: tuple = ()
-    # The desk's address as people have it, for links in mails.
+    # The desk's address as people have it, as https://fax.office.example: for links in mails, and needed behind a proxy.
     link: str = ""
     # A file with the text of a cover page, in which {number}, {name}, {owner} and {note} are replaced; none without it.
     cover: str = ""
@@ -88,20 +90,19 @@ def read_settings(file):
         if name not in kinds:
             raise Fault(f"{file}: there is no setting {name}", 2)
         if type(value) is not kinds[name] and not (kinds[name] is float and type(value) is int):
-            raise Fault(f"{file}: {name} is no {kinds[name].__name__}", 2)
+            raise Fault(f"{file}: {name} isn't {WORDS[kinds[name]]}", 2)
         if kinds[name] is dict and not all(isinstance(one, str) for one in value.values()):
-            raise Fault(f"{file}: {name} has a value that is no str", 2)
-        if kinds[name] in (int, float) and value <= 0:
-            raise Fault(f"{file}: {name} is to be above 0", 2)
+            raise Fault(f"{file}: {name} isn't {WORDS[dict]}", 2)
+        if kinds[name] in (int, float) and not 0 < value < math.inf:
+            raise Fault(f"{file}: {name} has to be above 0", 2)
     settings = Settings(**values)
     if settings.paper not in PAPERS:
         raise Fault(f"{file}: paper is none of {', '.join(PAPERS)}", 2)
     try:
         settings.cover_page("", "", "", "")
-    except (OSError, ValueError, LookupError) as fault:
+    except (OSError, ValueError, LookupError, AttributeError) as fault:
         raise Fault(f"{file}: cover: {fault}", 2) from None
-    try:
-        settings.address()
-    except ValueError:
-        raise Fault(f"{file}: listen is no address and port, as 127.0.0.1:4560", 2) from None
+    for name in "listen", "smtp":
+        if not re.fullmatch(r"\S+:[0-9]{1,5}|", getattr(settings, name)) or name == "listen" and not settings.listen:
+            raise Fault(f"{file}: {name} isn't a host and a port, as 127.0.0.1:4560", 2)
     return settings

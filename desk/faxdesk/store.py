@@ -4,6 +4,8 @@ import sqlite3
 import threading
 import time
 
+from .client import Fault
+
 # A fax is `uploaded`, then `ready` once its document is made, then `submitted` once the queue has its job; or `unusable` if no
 # document can be made of its files, or `refused` by the queue. `state` is its job's, as in sendq(5), or 0 if the queue doesn't
 # have that job any more.
@@ -13,12 +15,14 @@ CREATE TABLE faxes (
     number TEXT NOT NULL, name TEXT NOT NULL, send_at INTEGER, resolution TEXT NOT NULL,
     file_name TEXT NOT NULL, uploads TEXT NOT NULL, rest_of INTEGER,
     stage TEXT NOT NULL, reason TEXT NOT NULL DEFAULT '', document TEXT, pages INTEGER,
-    job INTEGER UNIQUE, state INTEGER, confirmed INTEGER NOT NULL DEFAULT 0, status TEXT NOT NULL DEFAULT '',
+    job INTEGER, state INTEGER, confirmed INTEGER NOT NULL DEFAULT 0, status TEXT NOT NULL DEFAULT '',
     ended INTEGER, is_told INTEGER NOT NULL DEFAULT 0, UNIQUE (owner, token)
 ) STRICT;
 CREATE INDEX faxes_by_stage ON faxes (stage, state);
+CREATE INDEX faxes_to_tell ON faxes (id) WHERE is_told = 0;
 PRAGMA user_version = 1;
 """
+VERSION = 1
 
 
 class Store:
@@ -27,8 +31,11 @@ class Store:
     def __init__(self, file):
         self.file, self.threads = file, threading.local()
         with self.work() as database:
-            if database.execute("PRAGMA user_version").fetchone()[0] == 0:
+            version = database.execute("PRAGMA user_version").fetchone()[0]
+            if version == 0:
                 database.executescript(f"PRAGMA journal_mode = WAL; BEGIN; {TABLES} COMMIT;")
+            elif version != VERSION:
+                raise Fault(f"{file} is of version {version}, and this desk of version {VERSION}")
 
     @contextlib.contextmanager
     def work(self):
@@ -64,7 +71,7 @@ class Store:
         return next(iter(self.rows("WHERE id = ?", number)), None)
 
     def newest(self, owner, most=200):
-        """The newest faxes of an owner, or of all, if there is none. Those that failed come first."""
+        """The newest faxes of an owner, or without one of everybody. Those that failed come first."""
         mine, values = ("WHERE owner = ?", (owner,)) if owner else ("", ())
         found = self.rows(f"{mine} ORDER BY id DESC LIMIT ?", *values, most)
         return sorted(found, key=lambda fax: not has_failed(fax))

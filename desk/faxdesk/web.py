@@ -10,12 +10,14 @@ import flask
 import werkzeug.exceptions
 
 from .client import NAME, STATES
-from .documents import LINES, Unusable
+from .documents import LINES, Unusable, has_control
 from .sentences import sentence, shown
 
 MOST_NAME = 200  # bytes of a fax's name, as a job tag has them
 MORE = 10**6  # bytes of a form beside its files
 MOST_FILES = 20
+MOST_FILE_NAME = 100  # bytes of a file's name that are kept
+LAST_MOMENT = 4102444800  # the last one that the queue takes
 MOST_NOTE = 2000  # characters of the note on a cover page
 ACTIONS = {"suspend": (2, 3, 4, 5, 6), "resume": (1,), "kill": (1, 2, 3, 4, 5, 6)}  # by the states of jobs
 
@@ -32,16 +34,21 @@ def number_in(text):
     """The number to dial that a user wrote, without separators, as the queue has it."""
     digits = re.sub(r"[-. ()]", "", text)
     if not re.fullmatch(r"\+?[0-9*#]{1,32}", digits):
-        raise Refused(400, "The number has digits, *, #, a leading + and separators alone: +1 415 555-0100.")
+        raise Refused(400, "The number may contain only digits, *, #, a leading + and separators, as +1 415 555-0100.")
     return digits
 
 
 def name_in(text):
     """The name that a user gave a fax: one line."""
     name = re.sub(r"\s+", " ", text).strip()
-    if len(name.encode()) > MOST_NAME or not name.isprintable():
+    if len(name.encode()) > MOST_NAME or has_control(name):
         raise Refused(400, f"The name is one line of at most {MOST_NAME} bytes.")
     return name
+
+
+def file_name_in(text):
+    """The name of an uploaded file without its folder, or the end of a long one."""
+    return name_in(text.replace("\\", "/").rpartition("/")[2].encode()[-MOST_FILE_NAME:].decode(errors="ignore"))
 
 
 def moment_in(text):
@@ -49,9 +56,12 @@ def moment_in(text):
     if not text.strip():
         return None
     try:
-        return int(datetime.datetime.fromisoformat(text.strip()).timestamp())
+        moment = int(datetime.datetime.fromisoformat(text.strip()).timestamp())
     except (ValueError, OverflowError):
-        raise Refused(400, f"'{text}' is no time: 2026-12-24 18:00.") from None
+        moment = -1
+    if not 0 <= moment <= LAST_MOMENT:
+        raise Refused(400, f"'{text}' isn't a time such as 2026-12-24 18:00.")
+    return moment
 
 
 def as_json(fax):
@@ -71,7 +81,7 @@ def application(settings, store, documents, clerk):
     def who():
         """The name of the user, which a proxy on this machine states."""
         if not ipaddress.ip_address(request.remote_addr).is_loopback:
-            raise Refused(403, "Only a proxy on the desk's machine may ask.")
+            raise Refused(403, "Only this machine may ask the desk.")
         name = request.headers.get("X-Remote-User") or settings.user
         if not re.fullmatch(NAME, name):
             raise Refused(403, "The proxy states no user's name in X-Remote-User.")
@@ -87,9 +97,14 @@ def application(settings, store, documents, clerk):
             raise Refused(404, "There is no such fax.")
         return fax
 
+    hosts = settings.listen, urllib.parse.urlsplit(settings.link).netloc
+
     @app.before_request
-    def same_site():
-        """A form of another site isn't accepted (Fetch Metadata, and the field Origin of RFC 6454)."""
+    def refuse_foreign_requests():
+        """The desk answers under its own names alone, so no name of another site leads to it; and a form of another site isn't
+        accepted (Fetch Metadata, and the field Origin of RFC 6454)."""
+        if request.host not in hosts and request.host.rpartition(":")[0] not in ("127.0.0.1", "localhost", "[::1]"):
+            raise Refused(421, f"The desk isn't known as {request.host}: its setting `link` is its address.")
         if request.method != "POST":
             return
         origin = request.headers.get("Origin")
@@ -123,7 +138,7 @@ def application(settings, store, documents, clerk):
         return refuse(Refused(why.code, sentences.get(why.code, why.description)))
 
     @app.after_request
-    def fence(reply):
+    def restrict_contents(reply):
         reply.headers["Content-Security-Policy"] = (
             "default-src 'none'; style-src 'self'; script-src 'self'; img-src 'self'; connect-src 'self'; form-action 'self'; "
             "base-uri 'none'; frame-ancestors 'none'")
@@ -160,7 +175,7 @@ def application(settings, store, documents, clerk):
         files = [file for file in request.files.getlist("file") if file.filename]
         if not 1 <= len(files) <= MOST_FILES:
             raise Refused(400, f"The form has 1 to {MOST_FILES} files.")
-        names = ", ".join(name_in(file.filename.replace("\\", "/").rpartition("/")[2][-100:]) for file in files)
+        names = ", ".join(file_name_in(file.filename) for file in files)
         streams = [file.stream for file in files]
         note = form.get("note", "")
         if len(note) > MOST_NOTE:
@@ -202,7 +217,7 @@ def application(settings, store, documents, clerk):
     def act(number, action):
         fax = own_fax(number)
         if action not in actions(fax):
-            raise Refused(409, f"The fax can't be changed so. {sentence(fax)}")
+            raise Refused(409, f"This can't be done now. {sentence(fax)}")
         clerk.keep_action(fax, action)
         return answer(fax, 202)
 
