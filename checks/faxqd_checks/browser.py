@@ -1,4 +1,4 @@
-"""A browser, by WebDriver, and nginx before the queue and its desk, as docs/OPERATIONS.md sets it up."""
+"""A browser, by WebDriver, and nginx before the queue and its desk, with examples/fax.nginx."""
 import base64
 import contextlib
 import http.client

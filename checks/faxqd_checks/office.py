@@ -7,7 +7,7 @@ from .desk import TWO_PAGES, converted
 from .runner import group
 from .shared import CLOSE, answer_to, expect, expect_same, option, post, wants, within
 
-check = group("office", "Tries the desk in Chromium, through nginx as docs/OPERATIONS.md sets it up.", by_hand=True)
+check = group("office", "Tries the desk in Chromium, through nginx with examples/fax.nginx.", by_hand=True)
 
 
 def document(folder):

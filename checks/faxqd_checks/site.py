@@ -1,9 +1,8 @@
-"""nginx in front of the queue and the desk, with the site of docs/OPERATIONS.md."""
+"""nginx in front of the queue and the desk, with the site examples/fax.nginx."""
 import base64
 import contextlib
 import http.client
 import http.server
-import re
 import ssl
 import subprocess
 import threading
@@ -11,16 +10,11 @@ import threading
 from .runner import group
 from .shared import CLOSE, MANY, Server, TOP, answer_to, expect, free_port, get, is_free, wants, within
 
-check = group("site", "Tries the site of docs/OPERATIONS.md in nginx.", "waiting")
-
-
-def code_of(text, first, last):
-    """The indented block of a document from the line that begins with the first pattern to the line that is the last."""
-    return re.search(rf"(?ms)^    {first}.*?^    {last}\n", text)[0]
+check = group("site", "Tries the site examples/fax.nginx in nginx.", "waiting")
 
 
 class Proxy:
-    """nginx with the site of OPERATIONS.md, in which only addresses and paths of files are replaced. The password of its users is
+    """nginx with the site examples/fax.nginx, in which only names, addresses and paths of files are replaced. The password of its users is
     `secret`."""
 
     def __init__(self, folder, *users, only_desk=()):
@@ -40,20 +34,18 @@ class Proxy:
 
     def configuration(self, queue, desk):
         """The configuration, for a queue and a desk at these ports."""
-        text = (TOP / "docs/OPERATIONS.md").read_text()
-        site = code_of(text, r"# Fax-Client has to be", r"\}\n(?=\n)")
-        logs = code_of(text, "log_format fax", r"access_log [^\n]*;")
+        site = (TOP / "examples/fax.nginx").read_text()
         names = "".join(f"{user} 1;\n" for user in self.users if user != "ttyS0" and user not in self.only_desk)
         for old, new, times in (("frontdesk  1;", names, 1), ("listen 443", f"listen 127.0.0.1:{self.port}", 1), ("/etc/nginx/fax.pem", self.folder / "pem", 1),
                                 ("/etc/nginx/fax.key", self.folder / "key", 1), ("/etc/nginx/fax.users", self.folder / "users", 1),
+                                ("/var/log/nginx/fax.log", self.log, 1),
                                 ("http://127.0.0.1:4559", f"http://127.0.0.1:{queue}", 2),
                                 ("http://127.0.0.1:4560", f"http://127.0.0.1:{desk}", 1)):
-            expect(site.count(old) == times, f"the site of OPERATIONS.md hasn't {old} {times} times")
+            expect(site.count(old) == times, f"the site hasn't {old} {times} times")
             site = site.replace(old, str(new))
-        logs = re.sub(r"access_log \S+", f"access_log {self.log}", logs)
         places = " ".join(f"{kind}_temp_path {self.folder}/{kind};" for kind in ("client_body", "proxy", "fastcgi", "uwsgi", "scgi"))
         return (f"pid {self.folder}/pid; error_log {self.folder}/errors; events {{}} daemon off; user root;\n"
-                f"http {{ {places}\n{logs}{site}}}\n")
+                f"http {{ {places}\n{site}}}\n")
 
     def start(self, queue, desk):
         """Starts nginx in front of a queue and a desk at these ports, or starts it again."""

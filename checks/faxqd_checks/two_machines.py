@@ -124,7 +124,7 @@ def site(folder, port, ports, names):
     told = re.search(r"(?ms)^    (split_clients .*?^    \})\n", text) or re.search(r"(?ms)^    (upstream .*?^    \})\n", text)
     ask = re.search(r"(?m)^    (proxy_pass http://\$?\w+;)$", text)
     expect(told and ask, "OPERATIONS.md has no division of clients")
-    division = told[1].replace("127.0.0.1:4559", f"127.0.0.1:{ports[0]}").replace("127.0.0.1:4560", f"127.0.0.1:{ports[1]}")
+    division = told[1].replace("127.0.0.1:4559", f"127.0.0.1:{ports[0]}").replace("127.0.0.1:4561", f"127.0.0.1:{ports[1]}")
     secret = done("openssl", "passwd", "-apr1", "secret").strip()
     (folder / "users").write_text("".join(f"{name}:{secret}\n" for name in names))
     (folder / "conf").write_text(f"""pid {folder}/pid; error_log {folder}/errors; daemon off; user root; events {{}} http {{ access_log off;

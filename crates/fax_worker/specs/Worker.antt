@@ -84,7 +84,7 @@ pub record Begins (modem : List ℕ) (w : Worker) (action : Action) (number : �
 -- ---- a request is answered
 
 -- What a worker sees of its modem's grant. Where `next` is refused with `called` true, its journal was lost. It then needs to see, after that refusal, the call
--- and the number of pages that the queue has for the grant. No request shows them yet.
+-- and the number of pages that the queue has for the grant: `GET /modems` shows them.
 pub record Look : Type 0 where
   pub call : Option Call
   pub pages : ℕ
