@@ -5,4 +5,3 @@ mod RestartsLemmas
 mod RowsRestarts
 mod SayingLemmas
 mod ServeLemmas
-mod SettingsLemmas

@@ -12,13 +12,6 @@ use Rattle.fax_text.specs.declared.status.Status.{Status}
 use Rattle.fax_text.specs.declared.status.Status.TheVariants.{Success, Fault, Usage, Unused}
 
 module _ {W : Type 0} (contents : W → Option (List ℕ)) (out out₂ : Watched W) where
-  -- this text is printed, and the status shows whether a line isn't used; or the output failed
-  abbrev pub PrintsShown : Shown → Status → List ℕ → Type 0
-  PrintsShown shown Success line = (shown.has_unused ≡ false) × Put contents out out₂ (string_bytes shown.text) false × (line ≡ [])
-  PrintsShown shown Unused line = (shown.has_unused ≡ true) × Put contents out out₂ (string_bytes shown.text) false × (line ≡ [])
-  PrintsShown shown Fault line = BrokeOff contents out out₂ (string_bytes shown.text) × (line ≡ write_failed)
-  PrintsShown shown Usage line = ⊥
-
   -- what the files mean is printed, and a line of them isn't used, or each is
   abbrev pub Prints : OfficeFiles → Bool → List ℕ → Type 0
   Prints files unused line = (shown : Shown) × IsShownOf files (Ok shown) × (shown.has_unused ≡ unused) × Put contents out out₂ (string_bytes shown.text) false × (line ≡ [])

@@ -1,10 +1,10 @@
 //! `faxqd settings`: prints what setup and controls mean.
 ghost use Rattle.std.specs.Prelude.{◌≡◌, false};
 ghost use Rattle.fax_ending.specs.Ending.{spoken};
-ghost use Rattle.faxqd.specs.Settings.{PrintsShown, ShowsSettings};
+ghost use Rattle.faxqd.specs.Settings.{ShowsSettings};
 
 use fax_ending::Ending;
-use fax_files::{Shown, office_ending, show_office};
+use fax_files::{office_ending, show_office};
 use fax_http::Watched;
 use fax_text::OfficeFiles;
 use std::io::Write;
@@ -19,19 +19,11 @@ pub fn settings<'a, W: Write + Drop>(
     ensures { ShowsSettings W.contents out.old out.new files.entry result.status (spoken result) }
 {
     match show_office(rt, files) {
-        Ok(shown) => print_shown(&shown, out),
+        Ok(shown) => match out.put(shown.text.as_bytes()) {
+            Ok(()) if shown.has_unused => Ending::unused(),
+            Ok(()) => Ending::well(),
+            Err(_) => Ending::failed("faxqd: ended write-failed"),
+        },
         Err(fault) => office_ending(fault),
-    }
-}
-
-/// Prints this text. The status shows whether a line of the files isn't used.
-fn print_shown<W: Write + Drop>(shown: &Shown, out: &mut Watched<W>) -> Ending<'static>
-    requires { out.old.failed ≡ false }
-    ensures { PrintsShown W.contents out.old out.new shown.now result.status (spoken result) }
-{
-    match out.put(shown.text.as_bytes()) {
-        Ok(()) if shown.has_unused => Ending::unused(),
-        Ok(()) => Ending::well(),
-        Err(_) => Ending::failed("faxqd: ended write-failed"),
     }
 }
