@@ -2,15 +2,18 @@
 needs root, dpkg-deb, lintian, mmdebstrap, iproute2 and systemctl, and a mirror of Debian that apt reaches; the program is a built
 one, and no script; it takes one to two minutes."""
 import contextlib
+import json
 import os
 import pathlib
 import re
+import shlex
 import shutil
 import signal
 import subprocess
 import time
 
-from .documents import stubs
+from .documents import code, section_of, stubs, text_of
+from .fax_line import Line, Tools
 from .faxq import tiff
 from .runner import group
 from .shared import (CLOSE, EXAMPLES, MANY, Server, TOP, answer_to, attempt, expect, expect_same, get, post, reply_bytes,
@@ -244,6 +247,21 @@ class Root:
         as_user = ["setpriv", f"--reuid={user}", f"--regid={user}", "--clear-groups"] if user else []
         return ["nsenter", "-t", str(self.network.pid), "-n", "chroot", str(self.place), *as_user, *words]
 
+    @contextlib.contextmanager
+    def running(self, identity, settings, words, *options, **more):
+        """A service, under the identity that these options of setpriv give. bwrap takes the place of chroot, in which the desk could
+        make no sandbox."""
+        own = ["nsenter", "-t", self.network.pid, "-n", "bwrap", "--bind", self.place, "/", "--proc", "/proc", "--dev", "/dev",
+               *options, "--cap-add", "ALL"]
+        start = ["setpriv", *identity, "env", "-i", "PATH=/usr/bin:/bin", *settings]
+        process = subprocess.Popen([str(word) for word in (*own, *start, *words)], stdin=subprocess.DEVNULL, cwd="/",
+                                   start_new_session=True, **more)
+        try:
+            yield process
+        finally:
+            os.killpg(process.pid, signal.SIGKILL)
+            process.wait()
+
     def __enter__(self):
         return self
 
@@ -413,6 +431,11 @@ def desk_package(folder):
     expect(ran.returncode == 0 and not ran.stderr, f"of faxqd-desk.service it says {ran.stderr}")
 
 
+def told_commands():
+    """The commands by which OPERATIONS.md makes an office, each as its words."""
+    return [shlex.split(line) for line in code(section_of(text_of("OPERATIONS.md"), "An office in ten minutes")) if line]
+
+
 DESK_NEEDS = ("python3-flask", "python3-waitress", "python3-pil", "ghostscript", "libtiff-tools", "bubblewrap", "paps",
               "fonts-dejavu-core")
 
@@ -446,17 +469,83 @@ def desk(folder):
 
 @contextlib.contextmanager
 def desk_serving(root):
-    """The desk, by its unit's command line and user. A root of its own takes the place of chroot, in which no sandbox could be made."""
+    """The desk, by its unit's command line and user."""
     unit = root.unit("faxqd-desk")
     user, group = (root.does("id", option, unit["User"][0]).strip() for option in ("-u", "-g"))
-    own = ["nsenter", "-t", root.network.pid, "-n", "bwrap", "--bind", root.place, "/", "--proc", "/proc", "--dev", "/dev", "--cap-add", "ALL"]
-    start = ["setpriv", f"--reuid={user}", f"--regid={group}", "--clear-groups", "env", "-i", "PATH=/usr/bin:/bin", *unit["Environment"][0].split()]
-    words = [str(word) for word in (*own, *start, *unit["ExecStart"][0].split())]
-    process = subprocess.Popen(words, stdin=subprocess.DEVNULL, stdout=subprocess.PIPE, stderr=subprocess.PIPE, text=True, cwd="/")
-    try:
+    identity = f"--reuid={user}", f"--regid={group}", "--clear-groups"
+    with root.running(identity, unit["Environment"][0].split(), unit["ExecStart"][0].split(), stdout=subprocess.PIPE,
+                      stderr=subprocess.PIPE, text=True) as process:
         first = process.stdout.readline()
         expect(first == "faxdesk: listening at 127.0.0.1:4560\n", f"the desk says {first!r} and {process.poll() and process.stderr.read()!r}")
         yield
-    finally:
-        process.kill()
-        process.wait()
+
+
+# ---- the office of the document
+
+def worker_by_efax(root, modem, device):
+    """The worker of a modem, as systemd starts it with the drop-in; the device stands in place of the modem's."""
+    unit = root.unit("faxqd-worker@")
+    drop_in = root.path("/etc/systemd/system/faxqd-worker@.service.d/efax.conf").read_text().replace("%i", modem)
+    words, = re.findall(r"(?m)^ExecStart=(.+)$", drop_in)
+    more, = re.findall(r"(?m)^SupplementaryGroups=(.+)$", drop_in)
+    user, group = 61234, int(root.does("getent", "group", more).split(":")[2])
+    for folder in "/var/lib/faxqd-worker", "/var/log/faxqd":
+        root.path(folder).mkdir(exist_ok=True)
+        os.chown(root.path(folder), user, user)
+    device.resolve().chmod(0o666)
+    identity = f"--reuid={user}", f"--regid={user}", f"--groups={group}"
+    return root.running(identity, [*unit["Environment"][0].split(), "WAIT=0.5"], words.split(),
+                        "--dev-bind", device.resolve(), f"/dev/{modem}")
+
+
+def make_office(root, folder, commands):
+    """Runs the commands in the root. What they say to systemd is done when all of them have run."""
+    for words in commands:
+        if words[0] == "systemctl":
+            continue
+        if words[0] == "apt-get":
+            root.install(build(folder, "1.0"))
+            root.install(folder / "faxqd-desk_1.0_all.deb")
+        elif words[0] == "htpasswd":
+            root.does("htpasswd", "-b", *words[1:], "secret")
+        else:
+            root.does(*words)
+    told = [words[1:] for words in commands if words[0] == "systemctl"]
+    expect_same(told, [["restart", "nginx", "faxqd-desk"], ["daemon-reload"], ["enable", "--now", "faxqd-worker@ttyS0"]], "what systemd is told")
+
+
+def upload(root):
+    """What the office's user gets for a document that she uploads."""
+    root.path("/tmp/report.ps").write_text("%!PS\n/Courier findfont 40 scalefont setfont 72 600 moveto (report) show showpage\n")
+    return root.does("curl", "--silent", "--fail-with-body", "--cacert", "/etc/nginx/fax.pem", "--resolve", "fax.office.example:443:127.0.0.1",
+                     "-u", "anna:secret", "-H", "Accept: application/json", "-F", "token=abcdefgh", "-F", "number=5550111", "-F",
+                     "file=@/tmp/report.ps", "https://fax.office.example/faxes")
+
+
+@check
+def office(folder):
+    """The commands of OPERATIONS.md make a fax office in a fresh Debian: what its user uploads through nginx, with TLS and her
+    password, is received at the other end of a soft modem's line."""
+    wants("dpkg-deb", "mmdebstrap", "ip", "bwrap", "efax")
+    folder.chmod(0o755)
+    done(TOP / "packaging/build-desk", folder, env={**os.environ, "VERSION": "1.0"})
+    commands = told_commands()
+    more = [word for word in commands[0][2:] if not word.startswith("./")]
+    with Root(folder / "root", *DESK_NEEDS, *more) as root, contextlib.ExitStack() as ends:
+        make_office(root, folder, commands)
+        ends.enter_context(root.serving())
+        ends.enter_context(desk_serving(root))
+        line = Line(Tools().modems, folder)
+        ends.callback(line.stop)
+        proxy = subprocess.Popen(root.inside("nginx", "-g", "daemon off;"), stdin=subprocess.DEVNULL)
+        ends.callback(proxy.wait)
+        ends.callback(proxy.terminate)
+        ends.enter_context(worker_by_efax(root, "ttyS0", line.caller))
+        within("an answer", lambda: root.asks("modems"))
+        fax = json.loads(upload(root))
+        expect(fax.get("number") == "5550111", f"the upload is answered {fax}")
+        status = root.inside("faxq", "--client", "x", "status", "1")
+        within("the fax is done", lambda: "is done: 1 of 1 pages" in run(*status).stdout, 100)
+        expect(len(line.confirmed()) == 1, f"{len(line.confirmed())} pages are received")
+        log = root.path("/var/log/nginx/fax.log").read_text()
+        expect(re.search(r' anna - 201 "POST /faxes ', log), f"nginx logs {log}")
