@@ -253,14 +253,14 @@ def resolutions(folder):
 
 @check
 def hostile(folder):
-    """Files that are empty, too large, damaged, without end, or another thing than their name says are refused with a sentence, and
-    read nothing of the machine."""
-    with office(folder, seconds=5, megabytes=2, pages=3) as (server, desk):
+    """Files that are empty, too large, damaged, or another thing than their name says are refused with a sentence, and read nothing
+    of the machine."""
+    with office(folder, megabytes=2, pages=3) as (server, desk):
         (folder / "secret").write_text("secret")
         bomb = png(30000, 30000, zlib.decompress(zlib.compress(bytes(30001))) * 2)
         for data, reason_said, name in (
                 (b"<!DOCTYPE html><p>Fax", "web page", "letter.pdf"), (b"MZ\x90\0\1\2", "none of", "letter.pdf"),
-                (b"%PDF-1.4\nnothing", "can't be printed|no page", "letter.pdf"), (b"%!PS\n{} loop", "longer than 5 s|can't be printed", "x.ps"),
+                (b"%PDF-1.4\nnothing", "can't be printed|no page", "letter.pdf"),
                 (f"%!PS\n({folder}/secret) (r) file pop showpage".encode(), "can't be printed", "x.ps"),
                 (b"%!PS\n(/etc/passwd) (r) file pop showpage", "can't be printed", "x.ps"),
                 (b"%!PS\n(%pipe%touch /work/x) (w) file pop showpage", "can't be printed", "x.ps"),
@@ -286,6 +286,15 @@ def hostile(folder):
                 expect_same(desk.submit(TWO_PAGES, **form)[0], 400, "the status")
         expect_same(rows_of_copy(folder / "queue.db", "SELECT count(*) FROM jobs"), [(0,)] if not any(
             fax["stage"] == "submitted" for fax in desk.ask("GET", "/faxes", user="chief")[1]["faxes"]) else [(1,)], "the jobs")
+
+
+@check
+def endless(folder):
+    """A file that is never converted is refused when its time is over."""
+    with office(folder, seconds=5) as (_, desk):
+        fax = desk.submit(b"%!PS\n{} loop", file_name="x.ps")[1]
+        reason = desk.settled(fax["id"], "unusable")["reason"]
+        expect(re.search("longer than 5 s|can't be printed", reason), f"the reason is {reason!r}")
 
 
 @check
@@ -669,7 +678,9 @@ def monitored(folder):
         desk.submit(TEXT)
         ends(server, desk.settled(1, "submitted")["job"], "done")
         desk.settled(2, "submitted")
-        within("the jobs are seen", lambda: metrics_of(desk)['faxqd_jobs{state="done"}'] == 1)
+        def seen_in(state):
+            return metrics_of(desk)[f'faxqd_jobs{{state="{state}"}}']
+        within("the jobs are seen", lambda: seen_in("done") == 1 and seen_in("ready") == 1)
         seen = metrics_of(desk)
         expect_same([seen[f'faxqd_jobs{{state="{state}"}}']
                     for state in ("ready", "active", "done", "failed")], [1, 0, 1, 0], "jobs by state")
