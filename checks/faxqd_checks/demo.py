@@ -67,7 +67,7 @@ exec {program} "$@"
 def shown(program, *words):
     """The status of the demo with this program, and the lines that it prints."""
     ran = subprocess.run([EXAMPLES / "demo", *words], env={**os.environ, "PROGRAM": str(program)}, stdin=subprocess.DEVNULL,
-                         capture_output=True, text=True, timeout=60)
+                         capture_output=True, text=True, timeout=180)
     expect_same(ran.stderr, "", "standard error")
     return ran.returncode, ran.stdout
 

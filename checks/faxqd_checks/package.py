@@ -350,7 +350,8 @@ def is_used(root):
                               stdin=subprocess.DEVNULL) as process:
             try:
                 within("the worker sends it", lambda: "is done: 2 of 2 pages" in root.asks("status", "1"), pause=0.2)
-                expect(root.path("/tmp/calls").read_text().count("\tSEND\t") == 1, "the worker's log hasn't the call")
+                log = root.path("/tmp/calls")
+                within("the worker logs the call", lambda: log.exists() and log.read_text().count("\tSEND\t") == 1)
             finally:
                 process.kill()
 
