@@ -359,7 +359,7 @@ def rest(folder):
 
 @check
 def refused(folder):
-    """What the queue refuses is told, and isn't submitted again."""
+    """What the queue refuses is reported, and isn't submitted again."""
     wants_all()
     (folder / "setup").write_text(SETUP)
     (folder / "controls").write_text("^666$\n  RejectNotice = Not to them\n")
@@ -422,7 +422,7 @@ def upload_until(ends, desk, user, sent):
 @check
 def killed(folder):
     """Over kills of the desk, the queue and the worker at random moments each upload that is repeated until it is answered is one fax
-    and one job, and its end is told once; a mail that comes again, from a desk that was killed when it was sent, has the same name."""
+    and one job, and its end is mailed once; a mail that comes again, from a desk that was killed when it was sent, has the same name."""
     wants("curl", "flock")
     chance, sent, kills, over = random.Random(folder.name), [], int(option("kills", 200 if said.all else 6)), threading.Event()
     with MailServer() as mails, office(folder, **mails.settings()) as (server, desk):
@@ -447,8 +447,8 @@ def killed(folder):
         jobs = {desk.fax(number, user)["job"] for user, number in sent}
         expect(len(sent) > 3 and len({number for _, number in sent}) == len(sent) == len(jobs), f"the faxes are {sent}")
         expect_same(rows_of_copy(folder / "queue.db", "SELECT count(*) FROM jobs"), [(len(sent),)], "the jobs")
-        told = [mail["Message-ID"] for _, mail in mails.mails]
-        expect(len(set(told)) == len(sent) and len(told) - len(sent) <= kills, f"{len(sent)} ends are told {len(told)} times")
+        names = [mail["Message-ID"] for _, mail in mails.mails]
+        expect(len(set(names)) == len(sent) and len(names) - len(sent) <= kills, f"{len(sent)} ends are mailed {len(names)} times")
         expect("a fault of the desk" not in desk.errors(), desk.errors()[-3000:])
 
 
@@ -507,7 +507,7 @@ def notices(folder):
 
 @check
 def notices_off(folder):
-    """What is over while there are no notices isn't told when there are; a recipient whom the mail server refuses for good keeps
+    """What is over while there are no notices gets no notice when there are; a recipient whom the mail server refuses for good keeps
     nothing up."""
     with MailServer() as mails, office(folder) as (server, desk):
         desk.submit(b"<html>")

@@ -318,8 +318,8 @@ def is_installed(root, package):
     folder = root.path("/var/lib/faxqd").stat()
     faxqd = int(root.does("id", "-u", "faxqd"))
     expect((folder.st_mode & 0o777, folder.st_uid) == (0o700, faxqd) and faxqd, "the queue's folder isn't the user's alone")
-    told = root.does("faxqd", "--version")
-    expect(re.match(r"faxqd 0 \(commit (?!0{10})[0-9a-f]{10}, rattle-kit-(?!000)\w+\)", told), f"the version of the installed program is {told!r}")
+    version = root.does("faxqd", "--version")
+    expect(re.match(r"faxqd 0 \(commit (?!0{10})[0-9a-f]{10}, rattle-kit-(?!000)\w+\)", version), f"the version of the installed program is {version!r}")
     for page in ("man1/faxq.1.gz", "man5/faxqd.5.gz", "man8/faxqd.8.gz"):
         expect(root.path(f"/usr/share/man/{page}").exists(), f"{page} isn't there")
 
@@ -357,7 +357,7 @@ def is_used(root):
 
 
 def is_upgraded(root, package):
-    """What the office changed stays, and so does the queue; a typo is told before the service starts."""
+    """What the office changed stays, and so does the queue; a typo is reported before the service starts."""
     setup = root.path("/etc/faxqd/office.setup")
     setup.write_text(setup.read_text() + "Modem: ttyS2\n")
     done("systemctl", f"--root={root.place}", "enable", "faxqd-worker@ttyS0", "faxqd-purge.timer")
@@ -432,7 +432,7 @@ def desk_package(folder):
     expect(ran.returncode == 0 and not ran.stderr, f"of faxqd-desk.service it says {ran.stderr}")
 
 
-def told_commands():
+def documented_commands():
     """The commands by which OPERATIONS.md makes an office, each as its words."""
     return [shlex.split(line) for line in code(section_of(text_of("OPERATIONS.md"), "An office in ten minutes")) if line]
 
@@ -484,7 +484,7 @@ def desk_serving(root):
 # ---- the office of the document
 
 def worker_by_efax(root, modem, device):
-    """The worker of a modem, as systemd starts it with the drop-in; the device stands in place of the modem's."""
+    """The worker of a modem, as systemd starts it with the drop-in; the device replaces the modem's."""
     unit = root.unit("faxqd-worker@")
     drop_in = root.path("/etc/systemd/system/faxqd-worker@.service.d/efax.conf").read_text().replace("%i", modem)
     words, = re.findall(r"(?m)^ExecStart=(.+)$", drop_in)
@@ -511,8 +511,8 @@ def make_office(root, folder, commands):
             root.does("htpasswd", "-b", *words[1:], "secret")
         else:
             root.does(*words)
-    told = [words[1:] for words in commands if words[0] == "systemctl"]
-    expect_same(told, [["restart", "nginx", "faxqd-desk"], ["daemon-reload"], ["enable", "--now", "faxqd-worker@ttyS0"]], "what systemd is told")
+    asked = [words[1:] for words in commands if words[0] == "systemctl"]
+    expect_same(asked, [["restart", "nginx", "faxqd-desk"], ["daemon-reload"], ["enable", "--now", "faxqd-worker@ttyS0"]], "what systemd is asked")
 
 
 def upload(root):
@@ -530,7 +530,7 @@ def office(folder):
     wants("dpkg-deb", "mmdebstrap", "ip", "bwrap", "efax")
     folder.chmod(0o755)
     done(TOP / "packaging/build-desk", folder, env={**os.environ, "VERSION": "1.0"})
-    commands = told_commands()
+    commands = documented_commands()
     more = [word for word in commands[0][2:] if not word.startswith("./")]
     with Root(folder / "root", *DESK_NEEDS, *more) as root, contextlib.ExitStack() as ends:
         make_office(root, folder, commands)

@@ -27,7 +27,7 @@ class Clerk:
         self.metrics, self.notices = Metrics(), Notices(settings, store)
 
     def start(self):
-        for does in self.converts, self.asks, self.notices.tells:
+        for does in self.converts, self.asks, self.notices.sends:
             threading.Thread(target=self.goes_on, args=(does,), name=does.__name__, daemon=True).start()
 
     def goes_on(self, does):
@@ -141,7 +141,7 @@ class Clerk:
         return text
 
     def look(self):
-        """Looks at the jobs that aren't over. The newest are in one listing, which tells whether a look at one is due."""
+        """Looks at the jobs that aren't over. The newest are in one listing, which shows whether a look at one is due."""
         listing = self.shown("/jobs/newest")
         states = states_in(listing)
         self.metrics.saw(listing, states, self.shown("/modems"), lambda job: self.shown(f"/jobs/{job}/times"))

@@ -331,7 +331,7 @@ class Folder:
 
     def send(self, queue, number, request, before=False, note=lambda answer: None):
         """Sends a request until it is answered; its answer, or why it is refused. `note` gets the answer before the request is
-        forgotten, so a caller that was killed between the two is told once more."""
+        forgotten, so a caller that was killed between the two gets its answer once more."""
         fields = {"Fax-Client": request["client"], "Fax-Number": request.get("number", number), "Content-Type": "text/plain"}
         login, same = request.get("login", request["client"]), (None, request["client"])
         if queue.login != login and not (login in same and queue.login in same):  # a proxy may take the login for the client
@@ -390,7 +390,7 @@ def form_of(fields, files):
 
 
 def lines(pairs):
-    """Key lines. A value stands in one line: a line feed in it would begin another."""
+    """Key lines. A value is one line: a line feed in it would begin another."""
     text = ""
     for tag, value in pairs:
         if re.search(r"[\x00-\x08\x0a-\x1f\x7f-\x9f]", str(value)):

@@ -56,7 +56,7 @@ class Notices:
         self.settings, self.store = settings, store
         self.later = {}  # the faxes whose notice wasn't accepted, each with the time of the next try and the pause before it
 
-    def tells(self):
+    def sends(self):
         """Sends what is due. What isn't accepted is sent later, in pauses that grow; what never will be is logged. Without a mail
         server or a command nothing is kept for the time when there is one."""
         for fax in self.store.to_tell():
