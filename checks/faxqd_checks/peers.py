@@ -268,7 +268,9 @@ def unread(folder):
             order = f"number:5550111\ntotpages:20\nnote:{60000 * 'x'}\n"
             expect(answer_to(server.port, post("/jobs", 1, order, fields=CLOSE))[0] == 201, "a fax isn't accepted")
             stubborn(server.port, stack, count)
-            settle(server)  # until all have come whose turn it is, and what the system buffers for them is full
+            # until all have come whose turn it is, and what the system buffers for them is full; one for whom there was no room
+            # tries again after up to 3.2 s (RFC 6298)
+            settle(server, 4)
             used = server.processor()
             took = times(server.port, 20)
             clients = [stack.enter_context(Peer(server.port, patience=3)) for _ in range(8)]
