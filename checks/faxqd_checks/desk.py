@@ -18,7 +18,6 @@ import os
 import random
 import re
 import secrets
-import socketserver
 import struct
 import subprocess
 import sys
@@ -27,6 +26,7 @@ import time
 import zlib
 
 from .bad_line import line_to
+from .mail_server import MailServer
 from .runner import group
 from .shared import (EXAMPLES, MANY, SETUP, TOP, Server, answer_to, attempt, expect, expect_same, free_port, get, option, post,
                      rows_of_copy, said, wants, within)
@@ -76,48 +76,6 @@ def toml_of(value):
     if isinstance(value, dict):
         return "{" + ", ".join(f"{name} = {toml_of(one)}" for name, one in value.items()) + "}"
     return json.dumps(value)
-
-
-class MailServer:
-    """Accepts mails (RFC 5321), and keeps each with its recipients."""
-
-    def __init__(self, port=0):
-        self.mails, sink = [], self
-
-        class Handler(socketserver.StreamRequestHandler):
-            def handle(self):
-                self.wfile.write(b"220 sink\r\n")
-                recipients = []
-                while line := self.rfile.readline():
-                    verb = line[:4].upper()
-                    if verb == b"DATA":
-                        self.wfile.write(b"354 go on\r\n")
-                        data = b"".join(iter(self.rfile.readline, b".\r\n"))
-                        sink.mails.append((recipients, email.message_from_bytes(data, policy=email.policy.default)))
-                        recipients = []
-                    elif verb == b"RCPT":
-                        recipients.append(re.search(rb"<(.*)>", line)[1].decode())
-                    refused = verb == b"RCPT" and "refused" in recipients[-1]
-                    self.wfile.write({b"QUIT": b"221 ends\r\n"}.get(verb, b"550 no\r\n" if refused else b"250 yes\r\n"))
-                    if verb == b"QUIT":
-                        return
-
-        class Listener(socketserver.ThreadingTCPServer):
-            allow_reuse_address = daemon_threads = True
-
-        self.server = Listener(("127.0.0.1", port), Handler)
-        self.address = f"127.0.0.1:{self.server.server_address[1]}"
-        threading.Thread(target=self.server.serve_forever, daemon=True).start()
-
-    def __enter__(self):
-        return self
-
-    def __exit__(self, *_):
-        self.server.shutdown()
-        self.server.server_close()
-
-    def settings(self):
-        return {"smtp": self.address, "sender": "fax@office.example", "domain": "office.example", "link": "https://fax.example"}
 
 
 class Desk:

@@ -8,8 +8,9 @@ import signal
 import threading
 import time
 
-from .desk import Desk, MailServer, wants_all
+from .desk import Desk, wants_all
 from .fax_line import Office, Tools, image, render
+from .mail_server import MailServer
 from .runner import group
 from .shared import Wrong, expect, fault, new_folder, say, told, within
 

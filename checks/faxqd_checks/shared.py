@@ -452,6 +452,21 @@ def settle(server, pause=1, limit=60):
         time.sleep(pause)
 
 
+class InThread:
+    """A server of a check's own, in a thread, until its block ends."""
+
+    def __init__(self, server):
+        self.server, self.port = server, server.server_address[1]
+        threading.Thread(target=server.serve_forever, daemon=True).start()
+
+    def __enter__(self):
+        return self
+
+    def __exit__(self, *_):
+        self.server.shutdown()
+        self.server.server_close()
+
+
 measured = []  # before the checks are run, since a busy machine would be given more time
 
 

@@ -5,10 +5,9 @@ import http.client
 import http.server
 import ssl
 import subprocess
-import threading
 
 from .runner import group
-from .shared import CLOSE, MANY, Server, TOP, answer_to, expect, free_port, get, is_free, wants, within
+from .shared import CLOSE, InThread, MANY, Server, TOP, answer_to, expect, free_port, get, is_free, wants, within
 
 check = group("site", "Tries the site examples/fax.nginx in nginx.", "waiting")
 
@@ -201,7 +200,7 @@ def desk_alone(proxy, desk):
         is_answered(asked, 403, False, f"{method} {path} of a user of the desk")
 
 
-class StubDesk:
+class StubDesk(InThread):
     """Answers each request `desk`, and keeps who it says asks, and at which host."""
 
     def __init__(self):
@@ -221,13 +220,4 @@ class StubDesk:
             def log_message(self, *_):
                 pass
 
-        self.server = http.server.ThreadingHTTPServer(("127.0.0.1", 0), Handler)
-        self.port = self.server.server_address[1]
-        threading.Thread(target=self.server.serve_forever, daemon=True).start()
-
-    def __enter__(self):
-        return self
-
-    def __exit__(self, *_):
-        self.server.shutdown()
-        self.server.server_close()
+        super().__init__(http.server.ThreadingHTTPServer(("127.0.0.1", 0), Handler))
