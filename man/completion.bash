@@ -5,12 +5,12 @@ _faxqd() {
     local word=${COMP_WORDS[COMP_CWORD]} before=${COMP_WORDS[COMP_CWORD - 1]} words
     COMPREPLY=()
     case $before in
-        --db | --setup | --controls) words=$(compgen -f -- "$word") ;;
+        --db | --setup | --controls | --journal) words=$(compgen -f -- "$word") ;;
         --listen | --to) words=$(compgen -W "127.0.0.1:4559" -- "$word") ;;
         -*) [[ $word == -* ]] || return ;;&
         *)
             if [ "$COMP_CWORD" = 1 ]; then
-                words=$(compgen -W "serve replay list check sendfax import settings help" -- "$word")
+                words=$(compgen -W "serve replay list check sendfax import settings worker post help" -- "$word")
             else
                 case ${COMP_WORDS[1]} in
                     serve) words="--db --listen --connections --timeout --setup --controls --help" ;;
@@ -20,6 +20,8 @@ _faxqd() {
                     sendfax) words="-d --pages -i -P -t -T -a -k --moment --request --client --to --help" ;;
                     import) words="--client --request --help" ;;
                     settings) words="--setup --controls --help" ;;
+                    worker) words="--to --journal --modem --wait --help" ;;
+                    post) words="--to --journal --client --key --forget --wait --help" ;;
                     *) return ;;
                 esac
                 words=$(compgen -W "$words" -- "$word")

@@ -9,11 +9,12 @@ import threading
 import time
 
 from .runner import group
-from .shared import CLOSE, EXAMPLES, MANY, Peer, Server, answer_to, attempt, expect, free_port, get, post, within
+from .shared import (CLOSE, EXAMPLES, MANY, Peer, Server, answer_to, attempt, expect, expect_same, free_port, get, post, said,
+                     within)
 
 check = group("bad-line", "Has examples/client.sh and worker.sh send faxes over a line that loses, doubles and delays "
               "messages, and import.sh bring an older queue's files in.", "waiting")
-PATIENCE = 40  # seconds until a fax that isn't sent counts as never sent
+PATIENCE = 90  # seconds until a fax that isn't sent counts as never sent
 FAX = "number:555-0111\ntotpages:3\njobtag:over a bad line\nmaxtries:100\nmaxdials:100\n"
 NO_JOB = b'{"no":8,"word":"no-job"}'
 FATES = "is lost", "its reply is lost", "comes twice", "comes late", "comes again"
@@ -75,13 +76,13 @@ class Office:
         self.ends.close()
 
     def environment(self, client="desk"):
-        return {**os.environ, "LIMIT": "2", "PAUSE": "0.1", "WAIT": "0.2", "CLIENT": client, "LOG": str(self.folder / "log"),
+        return {**os.environ, "PROGRAM": str(said.program), "WAIT": "0.2", "CLIENT": client, "LOG": str(self.folder / "log"),
                 "FAXQD": f"http://127.0.0.1:{self.line}", "PAGE_TAKES": self.page_takes}
 
     def submits(self):
         words = [EXAMPLES / "client.sh", self.folder / "desk", self.folder / "fax"]
-        ran = subprocess.run(words, env=self.environment(), capture_output=True, timeout=30, text=True)
-        expect((ran.returncode, ran.stdout) == (0, "1\n"), f"the client says '{ran.stdout}' for job 1, and {ran.stderr}")
+        ran = subprocess.run(words, env=self.environment(), capture_output=True, timeout=PATIENCE, text=True)
+        expect((ran.returncode, ran.stdout) == (0, '{"job":1}\n'), f"the client says '{ran.stdout}' for job 1, and {ran.stderr}")
 
     def start_worker(self):
         words = [EXAMPLES / "worker.sh", "ttyS0", self.folder / "ttyS0", self.folder / "modem"]
@@ -126,7 +127,7 @@ def faxes(folder):
             office.submits()
             office.start_worker()
             office.is_done()
-            within("the line of the call", lambda: (place / "log").exists() and (place / "log").read_text().endswith("\n"))
+            within("the line of the call", lambda: (place / "log").exists() and (place / "log").read_text().endswith("\n"), PATIENCE)
             office.is_over()
             wanted = ["hangup", "dial 5550111", "page 1 1", "page 1 2", "page 1 3", "hangup"]
             expect(office.did() == wanted, f"the modem did {office.did()}")
@@ -166,22 +167,21 @@ def imports(folder):
             old = f"jobid:7\nnumber:5550111\ntotpages:3\nnpages:1\nstate:6\nexternal:q {number:02}\n"
             (spool / f"q {number:02}").write_text(old)
         words = [EXAMPLES / "import.sh", folder / "import", *sorted(spool.iterdir())]
-        more = {"env": office.environment("old"), "stdout": subprocess.DEVNULL, "stderr": subprocess.PIPE}
-        for moment in 0.1, 0.2, 0.4, 0.3:
-            mover = subprocess.Popen(words, **more)
+        more = {"env": office.environment("old"), "stdin": subprocess.DEVNULL, "text": True}
+        for moment in 0.3, 0.6, 1.2, 0.9:
+            mover = subprocess.Popen(words, stdout=subprocess.DEVNULL, stderr=subprocess.DEVNULL, **more)
             time.sleep(moment)
             mover.kill()
             mover.wait()
-            mover.stderr.close()
-        ran = subprocess.run(words, timeout=60, **more)
+        ran = subprocess.run(words, timeout=4 * PATIENCE, capture_output=True, **more)
         expect(ran.returncode == 0, f"an import: {ran.stderr}")
         time.sleep(1.2)
         for number, file in enumerate(sorted(spool.iterdir()), 1):
             wanted = "number:5550111", "npages:1", "state:5", f"external:{file.name}"
             expect(office.shows_lines(number, *wanted), f"file {number} came in as {office.shows(number)}")
         expect(office.shows(13) == NO_JOB, f"a file came in twice: {office.shows(13)}")
-        left = {name: [file for file in (folder / "import" / name).rglob("*") if file.is_file()] for name in ("waiting", "refused")}
-        expect(len(list((folder / "import/taken").iterdir())) == 12 and not any(left.values()), f"the import's folder has {left}")
+        wanted = [f'{file}: {{"job":{number},"state":5}}' for number, file in enumerate(sorted(spool.iterdir()), 1)]
+        expect_same(ran.stdout.splitlines(), wanted, "what it says of the files")
         answer = answer_to(office.server.port, post("/modems/ttyS0/next", 1, client="w0", fields=CLOSE))[1]
         expect(answer == b'{"from":2,"grant":1,"job":1,"number":"5550111","to":3}',
                f"the first file isn't granted from its second page on: {answer}")

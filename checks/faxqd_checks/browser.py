@@ -36,18 +36,20 @@ def listens(port):
 
 
 class Office:
-    """A queue, its desk, and nginx before both."""
+    """A queue, or what stands at the port of one, its desk, and nginx before both."""
 
-    def __init__(self, folder, *users):
+    def __init__(self, folder, *users, queue=None):
         wants_all()
-        self.folder, self.ends, self.proxy = folder, contextlib.ExitStack(), Proxy(folder, *users)
-        (folder / "setup").write_text("Modem: ttyS0\n")
+        self.folder, self.ends, self.proxy, self.queue = folder, contextlib.ExitStack(), Proxy(folder, *users), queue
 
     def __enter__(self):
-        self.server = self.ends.enter_context(Server(self.folder / "queue.db", *MANY, "--setup", self.folder / "setup"))
-        self.desk = self.ends.enter_context(Desk(self.folder, self.server.port, link=f"https://localhost:{self.proxy.port}"))
+        if not self.queue:
+            (self.folder / "setup").write_text("Modem: ttyS0\n")
+            self.server = self.ends.enter_context(Server(self.folder / "queue.db", *MANY, "--setup", self.folder / "setup"))
+        queue = self.queue or self.server.port
+        self.desk = self.ends.enter_context(Desk(self.folder, queue, link=f"https://localhost:{self.proxy.port}"))
         self.ends.callback(self.proxy.stop)
-        self.proxy.start(self.server.port, self.desk.port)
+        self.proxy.start(queue, self.desk.port)
         return self
 
     def __exit__(self, *_):

@@ -1,19 +1,25 @@
-"""examples/client.sh and import.sh: against what isn't the queue's answer, with faxes and files left from before, and with a
-queue that lets nobody in."""
+"""examples/client.sh and import.sh: against what isn't the queue's answer, with requests that are left from before, with kills at
+any moment, and with words and folders that are wrong."""
+import concurrent.futures
 import contextlib
 import os
+import random
 import re
+import signal
 import subprocess
 import time
 
-from .proxy import Proxy, Strange, number_of, path_of, reply
+from .journals import Line
+from .proxy import STRANGE_TO_COMMANDS, Proxy, Strange, number_of, path_of, reply
 from .runner import group
-from .shared import (CLOSE, EXAMPLES, MANY, Server, answer_to, attempt, expect, get, post, rows_of_copy, said, wants, within)
+from .shared import (CLOSE, EXAMPLES, MANY, Server, answer_to, attempt, expect, expect_same, get, rows_of_copy, run, said,
+                     wants)
 
 check = group("clients", "Has examples/client.sh and import.sh hand each fax in once, and say what became of it.", "scripts")
 SHELLS = "dash", "bash"
-PATIENCE = 60
-OLD = "170000000000017", "170000000000018", "170000000000019"  # numbers of requests, before all that follow the clock
+KINDS = "client.sh", "import.sh"
+PATIENCE = 900 if said.all else 300
+NOBODY = "127.0.0.1:1"
 GOOD, BAD = "number:5550111\ntotpages:1\n", "number:666\ntotpages:1\n"
 
 
@@ -29,142 +35,181 @@ def queue(folder, instead=None):
 
 def ran(words, url, **more):
     """How a script ends, and what it says on both streams."""
-    environment = {**os.environ, "LIMIT": "5", "PAUSE": "0.02", "CLIENT": "desk", "FAXQD": url, "PROGRAM": str(said.program), **more}
+    environment = {**os.environ, "CLIENT": "desk", "FAXQD": url, "PROGRAM": str(said.program), **more}
     done = subprocess.run([str(word) for word in words], env=environment, capture_output=True, text=True, timeout=PATIENCE,
                           stdin=subprocess.DEVNULL)
     return done.returncode, done.stdout, done.stderr
 
 
-def client(shell, url, folder, text=None):
-    """Runs client.sh, with a fax of these lines if there are some."""
-    if text:
-        (folder / "fax").write_text(text)
-    return ran([shell, EXAMPLES / "client.sh", folder / "desk", *([folder / "fax"] if text else [])], url)
+def answered(kind, file, job):
+    """What the script of this kind prints of a file that is this job."""
+    return f'{{"job":{job}}}\n' if kind == "client.sh" else f'{file}: {{"job":{job},"state":5}}\n'
 
 
-def files(folder):
-    """What is in the folders of a script."""
-    return {place: sorted(file.name for file in (folder / place).glob("*")) for place in ("waiting", "refused", "given-up", "taken")
-            if list((folder / place).glob("*"))}
+def each_script(tried):
+    """Tries each script with each shell, side by side."""
+    def one(shell, kind):
+        with attempt(f"{shell} {kind}"):
+            tried(shell, kind, f"{kind}-{shell}")
+
+    with concurrent.futures.ThreadPoolExecutor() as pool:
+        for shell in SHELLS:
+            for kind in KINDS:
+                pool.submit(one, shell, kind)
 
 
 @check
 def strange_answers(folder):
     """What isn't the queue's answer to the request, as a proxy's 401, 404, 200 or redirect, isn't taken for one: each fax and each
     imported file is one job, and its request is the same to the byte when it is sent again."""
-    wants(*SHELLS, "curl", "flock")
-    with queue(folder, Strange()) as (server, proxy):
-        for number, shell in enumerate(SHELLS):
-            for kind in "client.sh", "import.sh":
-                with attempt(f"{shell} {kind}"):
-                    count, place = len(proxy.seen), folder / f"{kind}-{shell}"
-                    place.mkdir()
-                    (place / "file").write_text(GOOD)
-                    status, out, err = ran([shell, EXAMPLES / kind, place / "kept", place / "file"], proxy.url, CLIENT=f"c{shell}-{kind}")
-                    job = 2 * number + 1 + (kind == "import.sh")
-                    expect(status == 0 and str(job) in out, f"it ends with {status}, and says {out!r} and {err!r}")
-                    expect("isn't answered by the queue" in err or job > 1, f"what came isn't reported: {err!r}")
-                    sent = proxy.seen[count:]
-                    first = {number_of(data): data for data in reversed(sent)}
-                    expect(all(data == first[number_of(data)] for data in sent), "a request isn't the same when it is sent again")
-    expect(rows_of_copy(folder / "queue.db", "SELECT count(*) FROM jobs") == [(4,)], "there are other jobs than four")
+    wants(*SHELLS)
+    (folder / "file").write_text(GOOD)
+    with queue(folder, Strange(STRANGE_TO_COMMANDS)) as (server, proxy):
+        def tried(shell, kind, name):
+            status, out, err = ran([shell, EXAMPLES / kind, folder / name, folder / "file"], proxy.url, CLIENT=name)
+            expect_same(status, 0, f"how it ends, which says {err!r}")
+            expect(out in [answered(kind, folder / "file", job) for job in (1, 2, 3, 4)], f"it says {out!r}")
+            expect("\x1b" not in err, "a strange answer is printed raw")
+
+        each_script(tried)
+        expect_same(len({number_of(data) for data in proxy.seen}), 4, "the numbers of requests")
+        expect_same(len(set(proxy.seen)), 4, "requests that differ")
+    expect_same(rows_of_copy(folder / "queue.db", "SELECT count(*) FROM jobs"), [(4,)], "the jobs")
 
 
 @check
 def reported_once(folder):
-    """What comes again and again instead of the queue's answer is reported once, and a reply that is lost once or twice isn't."""
-    wants(*SHELLS, "curl", "flock")
-    strange = [b"", b""] + [reply(401, "<html>", "text/html")] * 4
-    left = []
+    """That nothing but strange answers comes is reported once."""
+    wants(*SHELLS)
     (folder / "file").write_text(GOOD)
-    with queue(folder, lambda data, hand_on: left.pop(0) if left else hand_on()) as (server, proxy):
-        for shell in SHELLS:
-            for kind in "client.sh", "import.sh":
-                left[:] = strange
-                status, out, err = ran([shell, EXAMPLES / kind, folder / f"{kind}-{shell}", folder / "file"], proxy.url, CLIENT=f"{kind}-{shell}")
-                expect(status == 0 and re.fullmatch(f"{kind}: request \\d+ isn't answered by the queue: 401 text/html; trying again\n", err),
-                       f"{shell} {kind} ends with {status}, and says {err!r}")
+    given = {}
+
+    def instead(data, hand_on):
+        client = re.search(rb"Fax-Client: (\S+)", data)[1]
+        given[client] = given.get(client, 0) + 1
+        return reply(401, "<html>", "text/html") if given[client] < 12 else hand_on()
+
+    with queue(folder, instead) as (server, proxy):
+        def tried(shell, kind, name):
+            status, out, err = ran([shell, EXAMPLES / kind, folder / name, folder / "file"], proxy.url, CLIENT=name)
+            wanted = 0, f"{kind}: {folder}/file: faxqd: no answer; trying again\n"
+            expect_same((status, err), wanted, "its status, and what it says")
+
+        each_script(tried)
+
+
+def left(folder, kind, name, text):
+    """Begins a request with this file as its body, as a script that is killed before it is answered."""
+    (folder / name).write_text(text)
+    path = "/jobs" if kind == "client.sh" else "/imports"
+    status = run("post", "--to", NOBODY, "--journal", folder / "kept/journal", "--client", "desk", "--wait", "0", "--key",
+                 folder / name, path, folder / name)[0]
+    expect_same(status, 4, "how a request without a queue ends")
 
 
 @check
 def own_results(folder):
-    """A fax that is left from before, accepted or refused, isn't the result of a new one; a refused fax may be fixed under its
-    number; and once a later one was accepted its number is given up, so that no late copy of it can be."""
-    wants(*SHELLS, "curl", "flock")
-    for shell in SHELLS:
-        with attempt(shell):
-            (folder / shell).mkdir()
-            with queue(folder / shell) as (server, proxy):
-                results(shell, folder / shell, proxy)
+    """A file that is left from before, accepted or refused, isn't the result of a new one; it has its own when it is named again,
+    without another request if it was accepted; a refused file may be corrected, and no late copy of it is accepted; the same file
+    by another path is the same."""
+    wants(*SHELLS)
+
+    def tried(shell, kind, name):
+        place = folder / name
+        (place / "kept").mkdir(parents=True)
+        with queue(place) as (server, proxy):
+            results(shell, kind, place, proxy)
+
+    each_script(tried)
 
 
-def results(shell, folder, proxy):
-    place = folder / "desk"
-    (place / "waiting").mkdir(parents=True)
-    (place / "waiting" / OLD[0]).write_text(BAD)
-    (place / "waiting" / OLD[1]).write_text(GOOD)
-    status, out, err = client(shell, proxy.url, folder, GOOD)
-    expect((status, out) == (0, "2\n"), f"a new fax ends with {status}, and says {out!r} and {err!r}")
-    expect(f"fax {OLD[0]} is refused: {{" in err and f"fax {OLD[1]}, left from before, is job 1" in err, f"it says {err!r}")
-    expect(files(place)["given-up"] == [OLD[0]] and "refused" not in files(place), f"the folders have {files(place)}")
-    late = answer_to(proxy.queue, post("/jobs", OLD[0], GOOD, "desk", CLOSE))
-    expect(late == (410, b'{"no":28,"word":"given-up"}'), f"a late copy is answered {late}")
-    # One that is refused, and fixed under its number.
-    status, out, err = client(shell, proxy.url, folder, BAD)
-    expect((status, out) == (1, "") and "\x1b" not in err, f"a refused fax ends with {status}, and says {out!r} and {err!r}")
-    number, = files(place)["refused"]
-    (place / "refused" / number).write_text(GOOD)
-    (place / "refused" / number).rename(place / "waiting" / number)
-    (place / "waiting" / OLD[2]).write_text(BAD)
-    status, out, err = client(shell, proxy.url, folder)
-    expect((status, out) == (1, "3\n"), f"what was left ends with {status}, and says {out!r} and {err!r}")
-    sent = [number_of(data) for data in proxy.seen if path_of(data) == "/jobs"]
-    expect(sent.count(number) == 2, f"the fixed one has another number: {sent}")
-    # What is fixed too late says so, and is kept.
-    (place / "given-up" / OLD[0]).rename(place / "waiting" / OLD[0])
-    status, out, err = client(shell, proxy.url, folder, GOOD)
-    expect((status, out) == (0, "4\n") and f"{OLD[0]} is refused" in err and "given-up" in err, f"{status} {out!r} {err!r}")
-    expect(files(place)["given-up"] == [OLD[0], OLD[2]] and len(files(place)["taken"]) == 4, f"the folders have {files(place)}")
+def results(shell, kind, place, proxy):
+    def does(name, text=None):
+        if text:
+            (place / name).write_text(text)
+        return ran([shell, EXAMPLES / kind, place / "kept", place / name], proxy.url)
+
+    def accepted(name, job):
+        return 0, answered(kind, place / name, job), ""
+
+    refused = 1, "", f"{kind}: {place}/bad: faxqd: refused 403 rejected\n"
+    left(place, kind, "bad", BAD)
+    expect_same(does("new", GOOD), accepted("new", 1), "a new file after one that is refused")
+    expect_same(does("bad"), refused, "the refused one, named again")
+    late = next(data for data in proxy.seen if BAD.encode() in data).replace(b"\r\n\r\n", f"\r\n{CLOSE}\r\n".encode(), 1)
+    expect_same(answer_to(proxy.queue, late), (410, b'{"no":28,"word":"given-up"}'), "a late copy of the refused one")
+    expect_same(does("bad", GOOD), accepted("bad", 2), "the refused one, corrected")
+    left(place, kind, "good", GOOD)
+    expect_same(does("newer", GOOD), accepted("newer", 4), "a new file after one that is accepted")
+    count = len(proxy.seen)
+    expect_same(does("good"), accepted("good", 3), "the accepted one, named again")
+    expect_same(ran(["sh", "-c", f'cd {place} && exec {shell} {EXAMPLES / kind} kept good'], proxy.url),
+                (0, answered(kind, "good", 3), ""), "the accepted one, by another path")
+    expect_same(len(proxy.seen), count, "requests then")
 
 
 @check
-def other_files(folder):
-    """Of an import that was broken off while its files were copied, nothing is sent when other files are named, and all when the
-    same ones are."""
-    wants(*SHELLS, "curl", "flock")
-    for shell in SHELLS:
-        with attempt(shell):
-            place = folder / shell
-            place.mkdir()
-            with queue(place) as (server, proxy):
-                broken_off(shell, place, proxy)
+def killed(folder):
+    """client.sh and import.sh, which are killed with their commands again and again over a network that loses and doubles messages,
+    hand in each of their files once, and print the same of each afterwards."""
+    wants(*SHELLS)
+    count = 12
+
+    def tried(shell, kind, name):
+        place, chance = folder / name, random.Random(name)
+        place.mkdir()
+        files = [place / f"file {number}" for number in range(1, count + 1)]
+        for file in files:
+            file.write_text(f"{GOOD}note:{file.name}\n")
+        with queue(place, Line(3)) as (server, proxy):
+            parts = [files] if kind == "import.sh" else zip(files)
+            words = [[shell, EXAMPLES / kind, place / "kept", *part] for part in parts]
+            environment = {**os.environ, "CLIENT": "desk", "FAXQD": proxy.url, "PROGRAM": str(said.program)}
+            for part in words:
+                for _ in range(2 if len(words) > 1 else 12):
+                    process = subprocess.Popen(part, env=environment, stdin=subprocess.DEVNULL, stdout=subprocess.DEVNULL,
+                                               stderr=subprocess.DEVNULL, start_new_session=True)
+                    time.sleep(chance.uniform(0, 0.6))
+                    os.killpg(process.pid, signal.SIGKILL)
+                    process.wait()
+            first, again = ([ran(part, proxy.url) for part in words] for _ in "ab")
+            expect_same([status for status, _, _ in first], [0] * len(words), f"how it ends: {first}")
+            expect_same([out for _, out, _ in again], [out for _, out, _ in first], "what it prints when it is run once more")
+            said_of = "".join(out for _, out, _ in first).splitlines()
+            for file, line in zip(files, said_of, strict=True):
+                job = re.search(r'\{"job":(\d+)', line)[1]
+                shown = answer_to(server.port, get(f"/jobs/{job}", CLOSE))[1].decode()
+                expect(f"\nnote:{file.name}\n" in shown, f"job {job} is {shown}")
+            expect_same(rows_of_copy(place / "queue.db", "SELECT count(*) FROM jobs"), [(count,)], "the jobs")
+
+    each_script(tried)
 
 
-def broken_off(shell, place, proxy):
-    def brings(*names):
-        return ran([shell, EXAMPLES / "import.sh", place / "kept", *(place / name for name in names)], proxy.url)
+@check
+def wrong(folder):
+    """Wrong arguments, an address with TLS, a folder of an older script, another client's journal and a file that isn't there: each
+    ends with one line, and sends nothing; import.sh brings the other files in."""
+    wants(*SHELLS)
+    (folder / "fax").write_text(GOOD)
+    (folder / "old/waiting").mkdir(parents=True)
+    (folder / "old/waiting/170000000000017").write_text(GOOD)
+    with queue(folder) as (server, proxy):
+        def tried(shell, kind, name):
+            script = shell, EXAMPLES / kind
+            expect_same(ran([*script, folder / name, folder / "fax"], proxy.url, CLIENT=f"other-{name}")[0], 0, "another client")
+            line = f"{kind}: .*\n"
+            for status, words, more in ((2, [], {}), (2, [folder / "new"], {}),
+                                        (2, [folder / "new", folder / "fax"], {"FAXQD": "https://x"}),
+                                        (1, [folder / "old", folder / "fax"], {}), (1, [folder / name, folder / "none"], {}),
+                                        (1, [folder / name, folder / "fax"], {"CLIENT": "desk"})):
+                got, out, err = ran([*script, *words], more.pop("FAXQD", proxy.url), **{"CLIENT": f"other-{name}", **more})
+                what = f"{words} {more} ends with {got}, and says {out!r} {err!r}"
+                expect((got, out) == (status, "") and re.fullmatch(line, err), what)
 
-    for name in "one", "two", "other":
-        (place / name).write_text(f"{GOOD}external:{name}\n")
-    os.mkfifo(place / "three")
-    process = subprocess.Popen([shell, EXAMPLES / "import.sh", place / "kept", place / "one", place / "two", place / "three"],
-                               env={**os.environ, "FAXQD": proxy.url}, stdin=subprocess.DEVNULL, stderr=subprocess.DEVNULL,
-                               start_new_session=True)
-    within("two copies", lambda: (place / "kept/waiting" / f"{2:018}").exists())
-    time.sleep(0.2)
-    os.killpg(process.pid, 9)
-    process.wait()
-    (place / "three").unlink()
-    (place / "three").write_text(f"{GOOD}external:three\n")
-    status, out, err = brings("other")
-    expect((status, out, proxy.seen) == (2, "", []), f"with another file it ends with {status}, says {out!r} {err!r}, sends {proxy.seen}")
-    status, out, err = brings()
-    expect((status, out, proxy.seen) == (2, "", []), f"without a file it ends with {status}, says {out!r} {err!r}, sends {proxy.seen}")
-    status, out, err = brings("one", "two", "three")
-    expect(status == 0 and out.count("\n") == 3, f"with the same files it ends with {status}, and says {out!r} and {err!r}")
-    for number, name in enumerate(("one", "two", "three"), 1):
-        job = answer_to(proxy.queue, get(f"/jobs/{number}", CLOSE))[1].decode()
-        expect(f"\nexternal:{name}\n" in job, f"job {number} is {job}")
-    count = len(proxy.seen)
-    expect(brings("one", "two", "three")[0] == 0 and brings()[0] == 0, "once more it doesn't end well")
-    expect(brings("other")[0] == 2 and len(proxy.seen) == count == 3, f"{proxy.seen[count:]} is sent")
+        each_script(tried)
+        expect_same(len(proxy.seen), 4, "requests")
+        expect(not (folder / "new").exists(), "a folder is made")
+        (folder / "more").write_text(f"{GOOD}note:more\n")
+        status, out, err = ran(["sh", EXAMPLES / "import.sh", folder / "import", folder / "none", folder / "more"], proxy.url)
+        wanted = 1, f'{folder}/more: {{"job":5,"state":5}}\n', f"import.sh: {folder}/none: faxqd: cannot read {folder}/none\n"
+        expect_same((status, out, err), wanted, "an import of which one file isn't there")

@@ -16,7 +16,7 @@ HEAD = "   s  who    request                         network            the queu
 FATES = "passes", "is lost", "its reply is lost", "comes twice", "comes late", "comes again", "came again"
 REQUEST = re.compile(rf" *\d+\.\d  (desk |ttyS[01])  (\d+) +(again )? *(/[\w/]+) +({'|'.join(FATES)})  +(-|[24]\d\d \{{.*)")
 EVENT = re.compile(r" *\d+\.\d  (ttyS[01])  \* (calls \d+: (?:busy|connected)|sends page \d to \d+)")
-SAID = re.compile(r" *\d+\.\d         \* (client|worker)\.sh: .*; trying again")
+SAID = re.compile(r" *\d+\.\d         \* (client|worker)\.sh: .*: faxqd: no answer; trying again")
 JOB = re.compile(r" +\d 127 D 555010\d +(\d):\1 +\d:12 \d{4}-\d\d-\d\d \d\d:\d\d")
 SUM = ("The network lost {} requests and {} replies, and repeated {} requests.\n"
        "Its clients made {} requests, and repeated {} of them until they were answered.\n")
@@ -25,7 +25,9 @@ GIVEN_UP = '410 {"no":28,"word":"given-up"}'
 # A queue that takes a submission for new whenever it comes: serves as the program does, but numbers each submission.
 FORGETFUL = """\
 #!{python}
-import itertools, re, socket, socketserver, subprocess, sys
+import itertools, os, re, socket, socketserver, subprocess, sys
+if sys.argv[1] != "serve":
+    os.execv({program!r}, sys.argv)
 sys.dont_write_bytecode = True
 sys.path.insert(0, {checks!r})
 from faxqd_checks.shared import is_whole
@@ -59,7 +61,7 @@ with Server((address[0], int(address[1])), Peer) as server:
 SMALL = """\
 #!/bin/sh
 for word; do setup=$word; done
-echo MaxJobs: 2 >> "$setup"
+[ "$1" != serve ] || echo MaxJobs: 2 >> "$setup"
 exec {program} "$@"
 """
 
@@ -98,9 +100,13 @@ def is_as_it_says(status, text):
     expect(sum(event.endswith(": busy") for event in events) == 1, f"not one call is busy: {events}")
     fates, answers = collections.Counter(fate for *_, fate, _ in requests), collections.defaultdict(set)
     expect_same(set(fates), set(FATES), "what the network does")
+    latest = collections.Counter()
     for client, number, _, path, _, answer in requests:
+        latest[client] = max(latest[client], int(number))
         answers[client, number, path] |= {answer.removesuffix(" twice")} - {"-", GIVEN_UP}
-    expect(all(len(found) == 1 for found in answers.values()), f"a request has not one answer: {dict(answers)}")
+    # (the last that a worker asks may be lost when the demo ends)
+    for (client, number, path), found in answers.items():
+        expect(len(found) == 1 or not found and int(number) == latest[client], f"{path}, {number} of {client}, is answered by {found}")
     expect(len(queue.splitlines()) == 4 and all(map(JOB.fullmatch, queue.splitlines()[1:])), f"the queue is {queue!r}")
     expect_same(modems.splitlines(), [f"    {page} went once" for page in PAGES], "the modems' count")
     repeats, again = fates["comes twice"] + fates["came again"], sum(bool(again) for _, _, again, _, _, _ in requests)
@@ -110,8 +116,9 @@ def is_as_it_says(status, text):
 
 @check
 def shows(folder):
-    """The table has each request with an answer, and always the same one, however often it comes; each thing that the network
-    does; and each page that a modem sends. What it sums up is in the table. It ends with 0, within a minute."""
+    """The table has each request with an answer, always the same one, however often it comes, but for a worker's
+    last, which may have none yet; each thing that the network does; and each page that a modem sends. What it sums up
+    is in the table. It ends with 0, within a minute."""
     for seed in "1", "2":
         with attempt(f"seed {seed}"):
             is_as_it_says(*shown(said.program, "--seed", seed))

@@ -25,11 +25,12 @@ import threading
 import time
 import zlib
 
+from . import shared
 from .bad_line import line_to
 from .mail_server import MailServer
 from .runner import group
 from .shared import (EXAMPLES, MANY, SETUP, TOP, Server, answer_to, attempt, expect, expect_same, free_port, get, option, post,
-                     rows_of_copy, said, wants, within)
+                     rows_of, rows_of_copy, said, wants)
 
 check = group("desk", "Has the desk submit documents once, over kills, refuse hostile files, and keep users apart.", "waiting")
 PYTHON = "/usr/bin/python3"
@@ -53,6 +54,11 @@ def png(width, height, rows=None):
     pixels = zlib.compress(rows or (b"\0" + b"\xff" * width) * height, 9)
     return (b"\x89PNG\r\n\x1a\n" + part(b"IHDR", struct.pack(">IIBBBBB", width, height, 8, 0, 0, 0, 0)) + part(b"IDAT", pixels)
             + part(b"IEND", b""))
+
+
+def within(what, holds, patience=PATIENCE):
+    """Waits until something holds, as long as it may take on a busy machine."""
+    return shared.within(what, holds, patience)
 
 
 def wants_all():
@@ -81,24 +87,18 @@ def toml_of(value):
 class Desk:
     """The desk of a queue, and its users."""
 
-    def __init__(self, folder, queue_port, **settings):
-        self.folder, self.port, self.process = folder, free_port(), None
+    def __init__(self, folder, queue_port, before=(), **settings):
+        self.folder, self.port, self.before, self.process = folder, free_port(), before, None
         values = {"listen": f"127.0.0.1:{self.port}", "server": f"http://127.0.0.1:{queue_port}", "folder": str(folder / "desk"),
                   "administrators": ["chief"], "pause": 0.2, **settings}
         (folder / "desk.toml").write_text("".join(f"{name} = {toml_of(value)}\n" for name, value in values.items()))
         self.start()
 
     def start(self):
-        self.process = subprocess.Popen([PYTHON,
-    "-B",
-    "-m",
-    "faxdesk",
-    self.folder / "desk.toml"],
-    cwd=TOP / "desk",
-    stdin=subprocess.DEVNULL,
-    stdout=subprocess.PIPE,
-    stderr=open(self.folder / "errors",
-     "a"))
+        words = [*self.before, PYTHON, "-B", "-m", "faxdesk", self.folder / "desk.toml"]
+        with open(self.folder / "errors", "a") as errors:
+            self.process = subprocess.Popen(words, cwd=TOP / "desk", stdin=subprocess.DEVNULL, stdout=subprocess.PIPE,
+                                            stderr=errors)
         line = self.process.stdout.readline()
         expect(line == f"faxdesk: listening at 127.0.0.1:{self.port}\n".encode(), f"the desk says {line} {self.errors()}")
 
@@ -127,6 +127,10 @@ class Desk:
             data = reply.read()
         return reply.status, json.loads(data) if reply.headers.get_content_type() == "application/json" else data
 
+    def database(self, text, *values):
+        """What the desk's database answers."""
+        return rows_of(self.folder / "desk/desk.db", text, *values)
+
     def submit(self, data, user="anna", file_name="letter.pdf", token=None, **form):
         """Uploads a file; the status and what the desk answers."""
         form = {"token": token or secrets.token_urlsafe(16), "number": "+1 415 555-0100", **form}
@@ -154,11 +158,13 @@ class Desk:
 
 
 @contextlib.contextmanager
-def office(folder, **settings):
-    """A queue and its desk."""
+def office(folder, controls="", **settings):
+    """A queue with these controls, and its desk."""
     wants_all()
     (folder / "setup").write_text(SETUP + "JobReqOther: 0\n")
-    with Server(folder / "queue.db", "--setup", folder / "setup", *MANY) as server, Desk(folder, server.port, **settings) as desk:
+    (folder / "controls").write_text(controls)
+    words = "--setup", folder / "setup", "--controls", folder / "controls", *MANY
+    with Server(folder / "queue.db", *words, patience=PATIENCE) as server, Desk(folder, server.port, **settings) as desk:
         yield server, desk
 
 
@@ -295,6 +301,28 @@ def changed(folder):
 
 
 @check
+def given_up(folder):
+    """A fax can be given up before the queue has its job: it is never submitted, or its job is killed if the queue may have
+    it."""
+    with office(folder, seconds=3) as (server, desk):
+        within("the queue is seen", lambda: desk.ask("GET", "/health", user=None)[0] == 200)
+        desk.submit(b"%!PS\n{} loop", file_name="x.ps")
+        waiting = desk.submit(TWO_PAGES)[1]["id"]
+        status, fax = desk.ask("POST", f"/faxes/{waiting}/kill")
+        expect_same((status, fax["next"]), (202, "It is being given up."), "the answer for a file that isn't converted")
+        expect("before it was submitted" in desk.settled(waiting, "unusable")["next"], "the sentence")
+        server.kill()
+        kept = desk.settled(desk.submit(TEXT)[1]["id"], "ready")["id"]
+        within("its request is kept", lambda: any((folder / "desk/requests/waiting").iterdir()))
+        answers = [desk.ask("POST", f"/faxes/{kept}/kill")[0] for _ in range(2)]
+        expect_same(answers, [202, 409], "the answers while the queue is gone")
+        server.start()
+        within("its job is killed", lambda: desk.fax(kept)["state"] == "failed")
+        expect("Killed" in desk.fax(kept)["next"], f"the sentence is {desk.fax(kept)['next']}")
+        expect_same(rows_of_copy(folder / "queue.db", "SELECT count(*) FROM jobs"), [(1,)], "the jobs")
+
+
+@check
 def rest(folder):
     """Of a fax that failed the pages that weren't confirmed are submitted by a button, once; what is sent of a page is what its
     preview shows."""
@@ -315,14 +343,13 @@ def rest(folder):
         expect(pictures[0] == pictures[1] and old["tiff"] != job["tiff"], "the first page isn't the second one of before")
 
 
+REJECTS = "^666$\n  RejectNotice = Not to them\n"
+
+
 @check
 def refused(folder):
     """What the queue refuses is reported, and isn't submitted again."""
-    wants_all()
-    (folder / "setup").write_text(SETUP)
-    (folder / "controls").write_text("^666$\n  RejectNotice = Not to them\n")
-    with Server(folder / "queue.db", "--setup", folder / "setup", "--controls", folder / "controls", *MANY) as server, \
-            Desk(folder, server.port) as desk:
+    with office(folder, REJECTS) as (_, desk):
         fax = desk.settled(desk.submit(TWO_PAGES, number="666")[1]["id"], "refused")
         expect("Not to them" in fax["next"], f"the sentence is {fax['next']}")
         expect_same(desk.settled(desk.submit(TWO_PAGES)[1]["id"], "submitted")["job"], 1, "the next job")
@@ -351,7 +378,7 @@ class Worker:
         self.folder, self.process = folder, None
         (folder / "modem").write_text(f'#!/bin/sh\n[ "$1" != dial ] || echo connected\n[ "$1" != page ] || echo "$2 $3" >> {folder}/pages\n')
         (folder / "modem").chmod(0o755)
-        self.environment = {**os.environ, "FAXQD": f"http://127.0.0.1:{port}", "WAIT": "0.2", "PAUSE": "0.1", "LIMIT": "5", "no_proxy": "*"}
+        self.environment = {**os.environ, "FAXQD": f"http://127.0.0.1:{port}", "WAIT": "0.2", "PROGRAM": str(said.program)}
         self.start()
 
     def start(self):
@@ -374,14 +401,17 @@ def upload_until(ends, desk, user, sent):
                 sent.append((user, fax["id"]))
                 answered = True
             time.sleep(0.05)
-        time.sleep(0.3)
+        time.sleep(6 if said.all else 0.3)  # the worker has to send them all
+
+
+STATES = "SELECT stage, state, count(*), min(id) FROM faxes GROUP BY stage, state"
 
 
 @check
 def killed(folder):
     """Over kills of the desk, the queue and the worker at random moments each upload that is repeated until it is answered is one fax
     and one job, and its end is mailed once; a mail that comes again, from a desk that was killed when it was sent, has the same name."""
-    wants("curl", "flock")
+    wants("flock")
     chance, sent, kills, over = random.Random(folder.name), [], int(option("kills", 200 if said.all else 6)), threading.Event()
     with MailServer() as mails, office(folder, **mails.settings()) as (server, desk):
         worker = Worker(folder, server.port)
@@ -398,7 +428,8 @@ def killed(folder):
             for task in tasks:
                 task.result()
         try:
-            within("all faxes are sent", lambda: all(desk.fax(number, user)["state"] == "done" for user, number in sent), 10 * PATIENCE)
+            within(lambda: f"all {len(sent)} faxes are sent: {desk.database(STATES)}",
+                   lambda: all(desk.fax(number, user)["state"] == "done" for user, number in sent), 60 * PATIENCE)
             within("all mails", lambda: len({mail["Message-ID"] for _, mail in mails.mails}) >= len(sent))
         finally:
             worker.kill()
@@ -597,9 +628,9 @@ def printer(folder):
         file = folder / "print.pdf"
         file.write_bytes(converted(folder, "pdf", TWO_PAGES))
 
-        def prints(title, *more, **streams):
+        def prints(title, *more, user="anna", **streams):
             environment = {**os.environ, "DEVICE_URI": f"faxdesk://127.0.0.1:{desk.port}"}
-            return subprocess.run([PYTHON, "-B", TOP / "desk/faxdesk/cups", "7", "anna", title, "1", "", *more], env=environment,
+            return subprocess.run([PYTHON, "-B", TOP / "desk/faxdesk/cups", "7", user, title, "1", "", *more], env=environment,
                                   capture_output=True, timeout=PATIENCE, **streams)
 
         for _ in range(2):
@@ -611,6 +642,11 @@ def printer(folder):
                     [("+14155550100", "Report", "2", "anna"), ("5550111", "", "2", "anna")], "the jobs")
         for title in "Report", "5550111 3 pages", "2026-12-24 Report.pdf", "":
             expect_same(prints(title, file).returncode, 5, f"the title {title!r}")
+        for fax, (title, name) in enumerate(((b"5550111:Gr\xfc\xdfe", "Gre"), ("5550111:" + "ü" * 120, "ü" * 100)), 3):
+            expect_same(prints(title, file).returncode, 0, f"the title {title!r}")
+            expect_same(key_lines(server, desk.settled(fax, "submitted")["job"])["jobtag"], name, "its name")
+        for user in "✓", b"\xff", "anna otto":
+            expect_same(prints("5550111", file, user=user).returncode, 5, f"the user {user!r}")
         desk.kill()
         expect_same(prints("5550111", file).returncode, 6, "without a desk")
         listed = subprocess.run([PYTHON, "-B", TOP / "desk/faxdesk/cups"], capture_output=True, text=True)
@@ -787,6 +823,7 @@ def settings(folder):
     wants_all()
     for text, named in (("pages = 0\n", "pages has to be above 0"), ("page = 5\n", "there is no setting page"), ("listen = 5\n", "listen isn't a text"),
                        ("listen = \"here\"\n", "listen isn't a host and a port"), ("smtp = \"localhost\"\n", "smtp isn't a host and a port"),
+                       ("lmtp = \"4562\"\n", "lmtp isn't a host and a port"), ("days = -1\n", "days has to be 0 or above"),
                        ("pause = nan\n", "pause has to be above 0"), ("notice = \"x\"\n", "notice isn't a list of texts"), ("pages = \n", "desk.toml: "), ("server = \"ftp://x\"\n", "is no address")):
         with attempt(text):
             (folder / "desk.toml").write_text(f'folder = "{folder / "desk"}"\n{text}')

@@ -229,7 +229,7 @@ def efax(folder):
     tiff(home / shlex.split(submit)[-1], 2)
     with Server(folder / "queue.db", "--setup", EXAMPLES / "office.setup", *MANY) as server:
         settings = {**stubs(folder, 2), "FAXQD": f"http://127.0.0.1:{server.port}", "FAXQ_FOLDER": str(folder / "faxq"),
-                    "CLIENT": "desk", "WAIT": "0.2", "PAUSE": "0.1", "no_proxy": "*"}
+                    "CLIENT": "desk", "WAIT": "0.2", "PROGRAM": str(said.program), "no_proxy": "*"}
         expect(shell(submit.replace("faxq", str(EXAMPLES / "faxq"), 1), home, **settings) == "1", "the fax isn't job 1")
         process = subprocess.Popen(["sh", "-c", f"exec env {worker}"], cwd=TOP, stdin=subprocess.DEVNULL, stderr=subprocess.PIPE,
                                    env={**os.environ, **settings})
@@ -238,7 +238,7 @@ def efax(folder):
                 shown = shell(f"{EXAMPLES}/faxq status 1", **settings)
                 expect(" failed" not in shown, shown)
                 return " is done: 2 of 2 pages confirmed" in shown
-            within("the job is done", over, pause=0.2)
+            within("the job is done", over, 90, 0.2)
         finally:
             process.kill()
             process.communicate()
@@ -295,3 +295,37 @@ def installed_desk(folder):
         finally:
             process.kill()
             process.communicate()
+
+
+# ---- the alarm
+
+RULE = """groups:
+- name: fax
+  rules:
+  - alert: NoPage
+    expr: 'EXPRESSION'
+"""
+TRIED = """rule_files: [rule.yml]
+tests:
+- interval: 1m
+  input_series:
+  - {{series: 'faxqd_jobs{{state="ready"}}', values: '{}'}}
+  - {{series: 'faxqd_jobs{{state="active"}}', values: '1'}}
+  - {{series: 'faxqd_last_page_seconds', values: '{}'}}
+  alert_rule_test:
+  - {{eval_time: 0m, alertname: NoPage, exp_alerts: [{}]}}
+"""
+
+
+@check
+def alarm(folder):
+    """Prometheus raises the alarm of OPERATIONS.md if a job is ready and no page was confirmed for an hour, and only then."""
+    wants("promtool")
+    expression = re.search(r"An alarm: `(.*?)`", section_of(text_of("OPERATIONS.md"), "The desk"))[1]
+    (folder / "rule.yml").write_text(RULE.replace("EXPRESSION", expression))
+    for ready, seconds, is_raised in ((1, 3601, True), (9, 99999, True), (0, 99999, False), (1, 3600, False), (9, 5, False)):
+        with attempt(f"{ready} ready jobs, the last page {seconds} s ago"):
+            alert = '{exp_labels: {state: "ready"}}' if is_raised else ""
+            (folder / "test.yml").write_text(TRIED.format(ready, seconds, alert))
+            ran = subprocess.run(["promtool", "test", "rules", folder / "test.yml"], cwd=folder, capture_output=True, text=True)
+            expect(ran.returncode == 0, f"the alarm is wrong: {ran.stdout}")

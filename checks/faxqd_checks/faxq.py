@@ -88,7 +88,7 @@ class Desk:
         start = time.monotonic()
         got, out, err = self.says(url, *words)
         expect(got == status and out == "" and re.search(wanted, err), f"{words} ends with {got}, and says {out!r}, {err!r}")
-        expect(time.monotonic() - start < 10, f"{words} isn't told at once")
+        expect(time.monotonic() - start < 60, f"{words} isn't told at once")
 
     def left(self):
         return sorted(file.name for file in self.folder.glob("waiting/*"))

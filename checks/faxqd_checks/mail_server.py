@@ -1,4 +1,5 @@
 """A mail server of a check's own."""
+import contextlib
 import email
 import email.policy
 import re
@@ -11,25 +12,35 @@ class MailServer(InThread):
     """Accepts mails (RFC 5321), and keeps each with its recipients."""
 
     def __init__(self, port=0):
-        self.mails, sink = [], self
+        self.mails, self.refuses, sink = [], False, self
 
         class Handler(socketserver.StreamRequestHandler):
             def handle(self):
                 self.wfile.write(b"220 sink\r\n")
                 recipients = []
-                while line := self.rfile.readline():
+                while line := self.line():
                     verb = line[:4].upper()
                     if verb == b"DATA":
                         self.wfile.write(b"354 go on\r\n")
-                        data = b"".join(iter(self.rfile.readline, b".\r\n"))
+                        data = b""
+                        while (line := self.line()) and line != b".\r\n":
+                            data += line
+                        if not line:
+                            return
                         sink.mails.append((recipients, email.message_from_bytes(data, policy=email.policy.default)))
                         recipients = []
                     elif verb == b"RCPT":
                         recipients.append(re.search(rb"<(.*)>", line)[1].decode())
                     refused = verb == b"RCPT" and "refused" in recipients[-1]
-                    self.wfile.write({b"QUIT": b"221 ends\r\n"}.get(verb, b"550 no\r\n" if refused else b"250 yes\r\n"))
+                    answer = b"550 no\r\n" if refused else b"451 later\r\n" if sink.refuses else b"250 yes\r\n"
+                    self.wfile.write({b"QUIT": b"221 ends\r\n"}.get(verb, answer))
                     if verb == b"QUIT":
                         return
+
+            def line(self):
+                """The next line, or nothing where the connection ends."""
+                with contextlib.suppress(ConnectionError):
+                    return self.rfile.readline()
 
         class Listener(socketserver.ThreadingTCPServer):
             allow_reuse_address = daemon_threads = True

@@ -96,6 +96,17 @@ def as_installed(folder):
 
 
 @look
+def helpers(folder):
+    """Each program beside faxqd runs where the package has it; so does the module that efax-worker needs."""
+    root = extracted(folder)
+    for name, words in ("efax-worker", "\nSends the faxes of one modem"), ("worker.sh", "the arguments are"), \
+                       ("client.sh", "the arguments are"), ("import.sh", "the arguments are"), ("purge.sh", "the arguments are"):
+        ran = run(root / "usr/lib/faxqd" / name)
+        expect(ran.returncode in (1, 2) and words in f"\n{ran.stderr}", f"{name} ends with {ran.returncode}, and says {ran.stderr}")
+    expect((root / "usr/share/doc/faxqd/examples/worker.nginx").exists(), "the package has no site for a worker")
+
+
+@look
 def units(folder):
     """systemd finds no fault in the package's units, nor in the drop-in for another worker that the worker's unit shows."""
     wants("systemd-analyze")
@@ -182,10 +193,9 @@ def stop(process, mode):
 def stopped(folder):
     """When a worker is stopped as its unit says, each page is sent once: worker.sh sends and reports the page that it has begun,
     and ends; what efax-worker has begun goes on, and the next worker waits for its end."""
-    wants("curl")
     unit = (TOP / "packaging/faxqd-worker@.service").read_text()
     mode = (re.findall(r"(?m)^KillMode=(\S+)$", unit) or ["control-group"])[-1]
-    settings = {**os.environ, **stubs(folder, 2), "EACH": "0.5", "WAIT": "0.2", "PAUSE": "0.1", "no_proxy": "*"}
+    settings = {**os.environ, **stubs(folder, 2), "EACH": "0.5", "WAIT": "0.2", "PROGRAM": str(said.program)}
     (folder / "modem").write_text(MODEM)
     (folder / "modem").chmod(0o755)
     tiff(folder / "letter.tif", 2)
@@ -204,11 +214,11 @@ def stopped(folder):
                 return (sent / "sent").exists() and what in (sent / "sent").read_text()
             process = begin()
             try:
-                within("a page is under way", lambda: has("page begins") or has("0001.tif"))
+                within("a page is under way", lambda: has("page begins") or has("0001.tif"), 60)
                 time.sleep(0.2)
                 stop(process, mode)
                 process = begin()
-                within("the job is done", lambda: b"\nstate:7\n" in answer_to(server.port, get("/jobs/1", CLOSE))[1])
+                within("the job is done", lambda: b"\nstate:7\n" in answer_to(server.port, get("/jobs/1", CLOSE))[1], 60)
             finally:
                 os.killpg(process.pid, signal.SIGKILL)
                 process.wait()

@@ -24,6 +24,10 @@ STRANGE = [
 ]
 
 
+# The same for the commands of a client, which look at status and body: a refusal is one without its content type, too.
+STRANGE_TO_COMMANDS = [answer for answer in STRANGE if b"text/html" not in answer or b'"no":' not in answer]
+
+
 class Listener:
     """Answers each connection's one message by `answer_to`, and keeps the messages in `seen`."""
 
@@ -112,14 +116,14 @@ def path_of(data):
 class Strange:
     """Gives each new request some answers that aren't the queue's, before the queue has it and after, then the queue's."""
 
-    def __init__(self):
-        self.most, self.given, self.next = len(STRANGE) if said.all else 3, {}, 0
+    def __init__(self, answers=STRANGE, most=3):
+        self.answers, self.most, self.given, self.next = answers, len(answers) if said.all else most, {}, 0
 
     def __call__(self, data, hand_on):
         given = self.given.setdefault((path_of(data), number_of(data)), [])
         if len(given) == self.most:
             return hand_on()
-        given.append(STRANGE[self.next % len(STRANGE)])
+        given.append(self.answers[self.next % len(self.answers)])
         self.next += 1
         if len(given) % 2 == 0:
             hand_on()

@@ -75,11 +75,12 @@ def expect(right, what):
 def expect_same(got, wanted, what):
     if got == wanted:
         return
-    start, more = 0, ""
+    more = ""
     if isinstance(got, (bytes, str)) and isinstance(wanted, type(got)) and max(len(got), len(wanted)) > 400:
         place = next((at for at, pair in enumerate(zip(got, wanted)) if pair[0] != pair[1]), min(len(got), len(wanted)))
         start, more = max(0, place - 100), f"differs at {place}, "
-    raise Wrong(f"{what}: {more}{got[start:start + 400]!r} in place of {wanted[start:start + 400]!r}")
+        got, wanted = got[start:start + 400], wanted[start:start + 400]
+    raise Wrong(f"{what}: {more}{got!r} in place of {wanted!r}")
 
 
 def one_line(text, most=2000):

@@ -1,15 +1,18 @@
-"""nginx in front of the queue and the desk, with the site examples/fax.nginx."""
+"""nginx in front of the queue and the desk, with the site examples/fax.nginx, and on the machine of a worker, with the site
+examples/worker.nginx."""
 import base64
 import contextlib
 import http.client
 import http.server
+import os
 import ssl
 import subprocess
 
 from .runner import group
-from .shared import CLOSE, InThread, MANY, Server, TOP, answer_to, expect, free_port, get, is_free, wants, within
+from .shared import (CLOSE, InThread, MANY, Server, TOP, answer_to, expect, expect_same, free_port, get, is_free, post, run, said,
+                     wants, within)
 
-check = group("site", "Tries the site examples/fax.nginx in nginx.", "waiting")
+check = group("site", "Tries the sites examples/fax.nginx and worker.nginx in nginx.", "waiting")
 
 
 class Proxy:
@@ -17,7 +20,7 @@ class Proxy:
     `secret`."""
 
     def __init__(self, folder, *users, only_desk=()):
-        self.folder, self.port, self.log, self.process = folder, free_port(), folder / "fax.log", None
+        self.folder, self.port, self.log, self.process, self.more = folder, free_port(), folder / "fax.log", None, ""
         self.users, self.only_desk = (*users, *only_desk), only_desk
         folder.chmod(0o755)
         self.does("openssl", "req", "-x509", "-newkey", "ec", "-pkeyopt", "ec_paramgen_curve:P-256", "-nodes", "-keyout",
@@ -38,13 +41,13 @@ class Proxy:
         for old, new, times in (("frontdesk  1;", names, 1), ("listen 443", f"listen 127.0.0.1:{self.port}", 1), ("/etc/nginx/fax.pem", self.folder / "pem", 1),
                                 ("/etc/nginx/fax.key", self.folder / "key", 1), ("/etc/nginx/fax.users", self.folder / "users", 1),
                                 ("/var/log/nginx/fax.log", self.log, 1),
-                                ("http://127.0.0.1:4559", f"http://127.0.0.1:{queue}", 2),
+                                ("http://127.0.0.1:4559", f"http://127.0.0.1:{queue}", 3),
                                 ("http://127.0.0.1:4560", f"http://127.0.0.1:{desk}", 1)):
             expect(site.count(old) == times, f"the site hasn't {old} {times} times")
             site = site.replace(old, str(new))
         places = " ".join(f"{kind}_temp_path {self.folder}/{kind};" for kind in ("client_body", "proxy", "fastcgi", "uwsgi", "scgi"))
         return (f"pid {self.folder}/pid; error_log {self.folder}/errors; events {{}} daemon off; user root;\n"
-                f"http {{ {places}\n{site}}}\n")
+                f"http {{ {places}\n{site}{self.more}}}\n")
 
     def start(self, queue, desk):
         """Starts nginx in front of a queue and a desk at these ports, or starts it again."""
@@ -162,6 +165,13 @@ def workers(proxy):
     asked = Asked(proxy, "POST", "/modems/ttyS0/next", "ttyS0", "", fields=named("ttyS0", number=1))
     is_answered(asked, 200, True, "a worker's question")
     expect(b'"grant":1' in asked.body, f"a worker gets {asked.body!r}")
+    for method, path, body in ("GET", "/modems", None), ("GET", "/jobs/1", None), ("POST", "/numbers/floor", '{"upto":1}'):
+        asked = Asked(proxy, method, path, "ttyS0", body, fields=named("ttyS0", number=9) if body else ())
+        expect(asked.status == 200, f"a worker's {method} {path} is answered {asked.status} {asked.body[:200]!r}")
+    for method, path in (("POST", "/jobs"), ("POST", "/jobs/1/kill"), ("GET", "/jobs"), ("POST", "/imports"),
+                         ("GET", "/jobs/1/times")):
+        asked = Asked(proxy, method, path, "ttyS0", FAX if method == "POST" else None, fields=named("ttyS0", number=10))
+        is_answered(asked, 403, False, f"a worker's {method} {path}")
 
 
 def purges(proxy):
@@ -198,6 +208,75 @@ def desk_alone(proxy, desk):
                          ("POST", "/imports"), ("POST", "/numbers/floor"), ("GET", "//jobs"), ("GET", "/faxes/../jobs")):
         asked = Asked(proxy, method, path, "anna", FAX if method == "POST" else None, fields=named("anna", number=9))
         is_answered(asked, 403, False, f"{method} {path} of a user of the desk")
+
+
+MODEM = """#!/bin/sh
+case $1 in dial) echo connected ;; page) echo "$2 $3" >> "${0%/*}/pages" ;; esac
+"""
+
+
+def far_site(proxy, port):
+    """The site examples/worker.nginx at this port, towards this proxy; only addresses and files are replaced."""
+    site = (TOP / "examples/worker.nginx").read_text()
+    for old, new in (("listen 127.0.0.1:4559", f"listen 127.0.0.1:{port}"),
+                     ("https://fax.office.example", f"https://127.0.0.1:{proxy.port}"),
+                     ("proxy_ssl_name fax.office.example", "proxy_ssl_name localhost"),
+                     ("/etc/ssl/certs/ca-certificates.crt", str(proxy.folder / "pem"))):
+        expect(site.count(old) == 1, f"the site of a worker hasn't {old} once")
+        site = site.replace(old, new)
+    return site
+
+
+@check
+def far_worker(folder):
+    """Through the site examples/worker.nginx of its own machine, with TLS and its password, worker.sh sends a fax, a worker whose
+    journal was lost holds its grant, and replies are given up; nothing goes under another name, and nothing if the server's
+    certificate isn't known."""
+    wants("nginx", "openssl", "flock")
+    (folder / "setup").write_text("Modem: ttyS0\n")
+    (folder / "modem").write_text(MODEM)
+    (folder / "modem").chmod(0o755)
+    (folder / "floor").write_text('{"upto":1}')
+    proxy, port = Proxy(folder, "desk", "ttyS0"), free_port()
+    proxy.more = far_site(proxy, port)
+    to = "--to", f"127.0.0.1:{port}"
+
+    def worker(name, *words):
+        return run("worker", *to, "--journal", folder / name, "--wait", "20", *words, patience=60)[:3]
+
+    def posts(client, name, *words):
+        return run("post", *to, "--journal", folder / name, "--client", client, "--wait", "0", *words)[:3]
+
+    with Server(folder / "queue.db", *MANY, "--setup", folder / "setup") as server:
+        try:
+            proxy.start(server.port, 1)
+            for number in 1, 2:
+                answer_to(server.port, post("/jobs", number, "number:5550111\ntotpages:2\n", fields=CLOSE))
+            expect(worker("one", "--modem", "ttyS0", "next")[1].startswith(b"grant 1 job 1 "), "a worker gets no work")
+            expect_same(worker("one", "call", "connected"), (0, b"go\n", b""), "a call")
+            lost = 0, b"grant 1 job 1 number 5550111 pages 1-2 call connected\n", b""
+            expect_same(worker("two", "--modem", "ttyS0", "next"), lost, "what a worker holds whose journal was lost")
+            expect_same(worker("two", "end", "fail"), (0, b"job 1 state 8\n", b""), "its end")
+            given_up = posts("ttyS0", "three", "/numbers/floor", folder / "floor")
+            expect(given_up[0] == 0 and given_up[1].startswith(b'{"floor":'), f"replies are given up: {given_up}")
+            nothing = 4, b"", b"faxqd: no answer\n"
+            expect_same(posts("desk", "four", "/jobs", folder / "setup"), nothing, "a request in another name")
+            environment = {**os.environ, "PROGRAM": str(said.program), "FAXQD": f"127.0.0.1:{port}", "WAIT": "0.2"}
+            process = subprocess.Popen([TOP / "examples/worker.sh", "ttyS0", folder / "ttyS0", folder / "modem"], env=environment,
+                                       stdin=subprocess.DEVNULL)
+            try:
+                within("the fax is done", lambda: b"\nstate:7\n" in answer_to(server.port, get("/jobs/2", CLOSE))[1], 60)
+            finally:
+                process.terminate()
+                process.wait()
+            expect_same((folder / "pages").read_text(), "2 1\n2 2\n", "the pages")
+            proxy.does("openssl", "req", "-x509", "-newkey", "ec", "-pkeyopt", "ec_paramgen_curve:P-256", "-nodes", "-keyout",
+                       folder / "other-key", "-out", folder / "other-pem", "-days", "2", "-subj", "/CN=localhost")
+            proxy.more = proxy.more.replace(str(folder / "pem"), str(folder / "other-pem"))
+            proxy.start(server.port, 1)
+            expect_same(posts("ttyS0", "three", "/numbers/floor", folder / "floor"), nothing, "an unknown server")
+        finally:
+            proxy.stop()
 
 
 class StubDesk(InThread):

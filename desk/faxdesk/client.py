@@ -313,6 +313,12 @@ class Folder:
         requests = (json.loads(file.read_text()) for file in self.refused.glob("[0-9]*"))
         return any(all(request[key] == like[key] for key in like) for request in requests)
 
+    def forget(self, words):
+        """Deletes the refused requests of these arguments."""
+        for file in self.refused.glob("[0-9]*"):
+            if json.loads(file.read_text())["words"] == words:
+                file.unlink()
+
     def new_number(self):
         """A number that wasn't used: the seconds since 1970 and eight random digits, or the one after the greatest that waits, so
         requests are sent in the order in which they were kept."""
@@ -354,21 +360,26 @@ class Folder:
 
 # ---- documents
 
+def directories(data):
+    """Where the directory of each page of a TIFF is, and the order of its bytes."""
+    order = {b"II*\0": "<", b"MM\0*": ">"}[data[:4]]
+    places, place = {}, struct.unpack_from(order + "I", data, 4)[0]
+    while place and place not in places:
+        places[place] = True
+        count, = struct.unpack_from(order + "H", data, place)
+        place, = struct.unpack_from(order + "I", data, place + 2 + 12 * count)
+    return list(places), order
+
+
 def pages_of(file):
-    """The bytes of a TIFF, and where the directory of each of its pages stands."""
+    """The bytes of a TIFF, where the directory of each of its pages is, and the order of its bytes."""
     try:
         data = file.read_bytes()
-        order = {b"II*\0": "<", b"MM\0*": ">"}[data[:4]]
-        places, place = {}, struct.unpack_from(order + "I", data, 4)[0]
-        while place and place not in places:
-            places[place] = True
-            count, = struct.unpack_from(order + "H", data, place)
-            place, = struct.unpack_from(order + "I", data, place + 2 + 12 * count)
+        return data, *directories(data)
     except OSError as fault:
         raise Fault(f"{file}: {fault.strerror}", 2) from None
     except (KeyError, struct.error):
         raise Fault(f"{file} isn't a TIFF", 2) from None
-    return data, list(places), order
 
 
 def without_first(data, places, order, first):

@@ -2,18 +2,20 @@
 
 Each is stored once, under its SHA-256. A conversion runs in a sandbox (bubblewrap) that has the system's programs, the files of
 one fax and a folder of its own, and neither a network nor the desk's data; and with limits of time, memory and size."""
+import errno
 import hashlib
 import logging
 import os
 import pathlib
 import shutil
+import struct
 import subprocess
 import tempfile
 import threading
 import time
 import unicodedata
 
-from .client import Fault, pages_of, put, sync, without_first
+from .client import Fault, directories, pages_of, put, sync, without_first
 
 log = logging.getLogger("faxdesk")
 
@@ -22,6 +24,7 @@ LINES = {"fine": 196, "standard": 98}  # to an inch, by ITU-T T.4
 DOTS = 204
 MOST_OUTPUT = 200  # megabytes of each file that a conversion writes
 MOST_PREVIEWS = 2  # that are made at the same time
+RECENT = 3600  # seconds for which a file is kept that isn't a fax's yet
 VARIABLES = {"PATH": "/usr/bin", "HOME": "/tmp", "LANG": "C.UTF-8"}
 SEEN = "/usr", "/etc/alternatives", "/etc/fonts", "/etc/ghostscript", "/var/lib/ghostscript", "/var/cache/fontconfig"
 
@@ -55,15 +58,26 @@ def is_plain_text(data):
 
 
 def has_control(text, but=""):
-    """Whether a text has a control character, or one that isn't assigned, but for these."""
-    return any(unicodedata.category(letter) in ("Cc", "Cn", "Co", "Cs") and letter not in but for letter in text)
+    """Whether a text has a control character except these."""
+    return any(unicodedata.category(letter) == "Cc" and letter not in but for letter in text)
+
+
+def bytes_of(file):
+    """The bytes of a file that was made in the sandbox, which isn't a link: that would lead the desk out of it."""
+    try:
+        with open(os.open(file, os.O_RDONLY | os.O_NOFOLLOW | os.O_NONBLOCK), "rb") as made:
+            return made.read()
+    except OSError as fault:
+        log.info("%s: %s", file, fault)
+        raise Unusable("The file can't be printed.") from None
 
 
 class Documents:
     """The files of the desk: `uploads` and `documents`, and `work` for conversions."""
 
     def __init__(self, settings):
-        self.settings = settings
+        self.settings, self.lock = settings, threading.Lock()
+        self.stored = {}  # when this desk stored each name last, by the monotonic clock
         self.uploads, self.made, self.work = (settings.place / name for name in ("uploads", "documents", "work"))
         for folder in self.uploads, self.made:
             folder.mkdir(parents=True, exist_ok=True)
@@ -94,12 +108,33 @@ class Documents:
                     raise Unusable("The file is empty.")
                 new.flush()
                 os.fsync(new.fileno())
+                self.is_stored(digest.hexdigest())
                 os.rename(new.name, self.uploads / digest.hexdigest())
             except BaseException:
                 os.unlink(new.name)
                 raise
         sync(self.uploads)
         return digest.hexdigest()
+
+    def is_stored(self, name):
+        """Notes that a file is stored under this name now."""
+        with self.lock:
+            self.stored[name] = time.monotonic()
+
+    def size(self, fax):
+        """The bytes of a fax's uploads and document."""
+        files = [self.uploads / name for name in fax["uploads"].split()] + [self.file(fax["document"])]
+        return sum(file.stat().st_size for file in files if file.exists())
+
+    def clean(self, used):
+        """Deletes uploads, documents and previews of other names than these, unless they were stored just now: their faxes may
+        not be in the database yet."""
+        for file in *self.uploads.iterdir(), *self.made.iterdir():
+            name = file.name.partition(".")[0]  # none of a file that is being written
+            with self.lock:
+                recent = time.monotonic() - self.stored.get(name, float("-inf")) < RECENT
+                if name and name not in used and not recent:
+                    file.unlink(missing_ok=True)
 
     def file(self, name):
         """The TIFF of this name."""
@@ -108,6 +143,7 @@ class Documents:
     def keep(self, data):
         """Stores a TIFF, and returns its name."""
         name = hashlib.sha256(data).hexdigest()
+        self.is_stored(name)
         if not self.file(name).exists():
             put(self.file(name), data)
         return name
@@ -117,15 +153,18 @@ class Documents:
         files = [self.uploads / upload for upload in uploads]
         with tempfile.TemporaryDirectory(dir=self.work) as room:
             made = self.printed(pathlib.Path(room), files, resolution, time.monotonic() + self.settings.seconds)
-            data = made.read_bytes()
-            pages = len(pages_of(made)[1])
+            data = bytes_of(made)
+        try:
+            pages = len(directories(data)[0])
+        except (KeyError, struct.error):
+            raise Unusable("The file can't be printed.") from None
         if pages > self.settings.pages:
             raise Unusable(f"The fax has more than {self.settings.pages} pages.")
         return self.keep(data), pages
 
     def printed(self, room, files, resolution, end):
-        """Prints files into a TIFF within a folder, each by itself, so that none changes how the next is printed. All has to be done
-        by then."""
+        """Prints files into a TIFF within a folder, each by itself, so that none changes how the next is printed. All has to be
+        done by then."""
         made = [f"{place}.tif" for place in range(len(files))]
         for place, name in enumerate(made):
             page = self.page_of(room, files, place, end)
@@ -165,7 +204,7 @@ class Documents:
         limits = ["prlimit", f"--as={self.settings.memory * 10**6}", f"--cpu={self.settings.seconds}",
                   f"--fsize={MOST_OUTPUT * 10**6}", "--core=0", "--"]
         try:
-            with open(room / "errors", "w+b") as errors:
+            with tempfile.TemporaryFile() as errors:
                 ran = subprocess.run([*sandbox, *limits, *words], stdin=subprocess.DEVNULL, stdout=subprocess.DEVNULL, stderr=errors,
                                      timeout=max(seconds, 0))
                 errors.seek(max(errors.seek(0, os.SEEK_END) - 1000, 0))
@@ -174,6 +213,8 @@ class Documents:
             raise Unusable(f"The files take longer than {self.settings.seconds} s to convert.") from None
         if ran.returncode != 0:
             log.info("%s ends with %s: %r", words[0], ran.returncode, said)
+            if shutil.disk_usage(room).free < MOST_OUTPUT * 10**6:  # it may be that, so the file is tried again later
+                raise OSError(errno.ENOSPC, os.strerror(errno.ENOSPC))
             raise Unusable("The file can't be printed: it is damaged, protected by a password, or too large.")
 
     def rest(self, name, first):
@@ -189,5 +230,5 @@ class Documents:
                 with tempfile.TemporaryDirectory(dir=self.work) as room:
                     words = "/usr/bin/python3", "-I", "/picture.py", "--page", str(page), "/in/0", "/work/page"
                     self.run(pathlib.Path(room), [self.file(name)], self.settings.seconds, *words)
-                    put(made, (pathlib.Path(room) / "page").read_bytes())
+                    put(made, bytes_of(pathlib.Path(room) / "page"))
         return made.read_bytes()

@@ -1,4 +1,4 @@
-"""Makes a fax of a mail, which it reads from standard input, as a mail server's pipe.
+"""Makes a fax of a mail, which it reads from standard input, as a mail server's pipe. The desk does the same by LMTP.
 
     python3 -m faxdesk.mail SETTINGS SENDER RECIPIENT < MESSAGE
 
@@ -6,6 +6,12 @@ SENDER and RECIPIENT are those of the envelope, which the mail server has to hav
 doesn't matter. The number to dial is before the @ of RECIPIENT, as in 5550111@fax.example. SENDER has to be a user: SETTINGS
 have their addresses. The fax has the attachments in order, or the text where there is none; its name is the subject. The same message
 again (by its Message-ID) is the same fax. What can't be sent is answered by a mail to the sender, if that is a user.
+
+In Postfix's master.cf, with `fax.example faxdesk:` in the transport_maps, and in main.cf the line
+`faxdesk_destination_recipient_limit = 1`:
+
+    faxdesk unix - n n - 1 pipe user=faxqd-desk argv=/usr/bin/env PYTHONPATH=/usr/local/lib/faxqd
+      /usr/bin/python3 -m faxdesk.mail /etc/faxqd/desk.toml ${sender} ${recipient}
 
 It ends with 0; with 77 (EX_NOPERM of sysexits.h) if the sender is no user, 65 (EX_DATAERR) if the message has nothing to send
 or the desk refuses it and no mail can say so, and 75 (EX_TEMPFAIL) if the desk doesn't answer, so the mail server tries again.
@@ -16,6 +22,7 @@ import email.message
 import email.policy
 import email.utils
 import hashlib
+import logging
 import os
 import smtplib
 import sys
@@ -25,8 +32,20 @@ from .notices import send
 from .settings import read_settings
 from .submitting import Away, Refused, submit
 
+log = logging.getLogger("faxdesk")
+
 MOST_NAME = 200  # bytes of a fax's name
 SIGNATURES = "application/pgp-signature", "application/pkcs7-signature", "application/x-pkcs7-signature"
+
+
+def header(message, name):
+    """A header of a message, as one line; empty if it is missing or can't be read, for which Python's parser raises exceptions
+    of many kinds."""
+    try:
+        text = str(message[name] or "")
+    except Exception:
+        return ""
+    return "".join(letter if letter.isprintable() else " " for letter in text).replace("\ufffd", "?").strip()
 
 
 def is_attachment(part):
@@ -41,10 +60,15 @@ def is_attachment(part):
 
 def parts_of(message):
     """The attachments of a message wherever they are in it, each with its name; or its text."""
-    found = [(part.get_filename() or f"part.{part.get_content_subtype()}", part.get_payload(decode=True))
-             for part in message.walk() if is_attachment(part)]
-    if not found and (text := message.get_body(("plain",))):
-        found.append(("mail.txt", text.get_content().encode()))
+    try:
+        found = [(part.get_filename() or f"part.{part.get_content_subtype()}", part.get_payload(decode=True))
+                 for part in message.walk() if is_attachment(part)]
+        if not found and (text := message.get_body(("plain",))):
+            found.append(("mail.txt", text.get_content().encode()))
+    except Exception:  # see `header`
+        raise Refused("The mail can't be read: a part of it is damaged.") from None
+    if not found:
+        raise Refused("The mail has neither an attachment nor a text.")
     return found
 
 
@@ -54,10 +78,41 @@ def answer(settings, sender, message, why):
     mail["From"], mail["To"] = settings.sender, sender
     mail["Subject"], mail["Date"] = "Your fax wasn't accepted", email.utils.formatdate()
     mail["Message-ID"], mail["Auto-Submitted"] = email.utils.make_msgid(), "auto-replied"
-    if message["Message-ID"]:
-        mail["In-Reply-To"] = message["Message-ID"]
+    if header(message, "Message-ID"):
+        mail["In-Reply-To"] = header(message, "Message-ID")
     mail.set_content(f"{why}\n")
     send(settings, mail)
+
+
+def is_answered(settings, sender, message, why):
+    """Whether a mail to the sender says so."""
+    if not settings.smtp or (header(message, "Auto-Submitted") or "no").lower() != "no":
+        return False
+    try:
+        answer(settings, sender, message, why)
+    except (OSError, smtplib.SMTPException) as fault:
+        log.warning("the answer to %s isn't accepted: %s", sender, fault)
+        return False
+    return True
+
+
+def deliver(settings, sender, recipient, data):
+    """Makes a fax of the bytes of a message. Returns the status, and why."""
+    user = settings.user_of(sender)
+    if not user:
+        return os.EX_NOPERM, f"{sender or 'the sender'} may not send faxes"
+    recipient = recipient.encode(errors="replace").decode()
+    message = email.message_from_bytes(data, policy=email.policy.default)
+    message_id = header(message, "Message-ID") or data
+    fields = {"token": "mail-" + hashlib.sha256(f"{message_id} {recipient}".encode()).hexdigest()[:40],
+              "number": recipient.partition("@")[0],
+              "name": header(message, "Subject").encode()[:MOST_NAME].decode(errors="ignore")}
+    try:
+        return os.EX_OK, f"it is fax {submit(settings.address(), user, fields, parts_of(message))}"
+    except Away as why:
+        return os.EX_TEMPFAIL, str(why)
+    except Refused as why:
+        return os.EX_OK if is_answered(settings, sender, message, why) else os.EX_DATAERR, str(why)
 
 
 def main():
@@ -72,33 +127,10 @@ def main():
     except Fault as fault:
         print(f"faxdesk: {fault}", file=sys.stderr)
         return os.EX_TEMPFAIL
-    data = sys.stdin.buffer.read()
-    message = email.message_from_bytes(data, policy=email.policy.default)
-    user = settings.user_of(said.sender)
-    if not user:
-        print(f"faxdesk: {said.sender or 'the sender'} may not send faxes", file=sys.stderr)
-        return os.EX_NOPERM
-    token = "mail-" + hashlib.sha256(f"{message['Message-ID'] or data} {said.recipient}".encode()).hexdigest()[:40]
-    number = said.recipient.partition("@")[0]
-    name = str(message["Subject"] or "").encode()[:MOST_NAME].decode(errors="ignore")
-    try:
-        files = parts_of(message)
-        if not files:
-            raise Refused("The mail has neither an attachment nor a text.")
-        submit(settings.address(), user, {"token": token, "number": number, "name": name}, files)
-    except Away as why:
+    status, why = deliver(settings, said.sender, said.recipient, sys.stdin.buffer.read())
+    if status != os.EX_OK:
         print(f"faxdesk: {why}", file=sys.stderr)
-        return os.EX_TEMPFAIL
-    except Refused as why:
-        try:
-            if str(message["Auto-Submitted"] or "no").lower() == "no" and settings.smtp:
-                answer(settings, said.sender, message, why)
-                return 0
-        except (OSError, smtplib.SMTPException) as fault:
-            print(f"faxdesk: {fault}", file=sys.stderr)
-        print(f"faxdesk: {why}", file=sys.stderr)
-        return os.EX_DATAERR
-    return 0
+    return status
 
 
 if __name__ == "__main__":

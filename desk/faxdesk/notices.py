@@ -39,15 +39,15 @@ def message(settings, fax):
     mail = email.message.EmailMessage(policy=email.policy.SMTP)
     mail["From"], mail["To"] = settings.sender, settings.address_of(fax["owner"])
     mail["Subject"], mail["Date"] = subject(fax), email.utils.formatdate()
-    mail["Message-ID"] = f"<fax-{fax['id']}-{fax['created']}@{settings.sender.rpartition('@')[2]}>"
+    domain = email.utils.parseaddr(settings.sender)[1].rpartition("@")[2]
+    mail["Message-ID"] = f"<fax-{fax['id']}-{fax['created']}@{domain}>"
     mail["Auto-Submitted"] = "auto-generated"
     mail.set_content(body(settings, fax))
     return mail
 
 
 def send(settings, mail):
-    host, _, port = settings.smtp.rpartition(":")
-    with smtplib.SMTP(host.strip("[]"), int(port), timeout=LIMIT) as server:
+    with smtplib.SMTP(*settings.address("smtp"), timeout=LIMIT) as server:
         server.send_message(mail)
 
 
@@ -62,7 +62,7 @@ class Notices:
         for fax in self.store.to_tell():
             if not self.settings.smtp and not self.settings.notice:
                 self.store.change(fax["id"], is_told=1)
-            elif self.later.get(fax["id"], (0, 0))[0] <= time.time():
+            elif self.later.get(fax["id"], (0, 0))[0] <= time.monotonic():
                 self.tell(fax)
 
     def tell(self, fax):
@@ -71,7 +71,7 @@ class Notices:
         except smtplib.SMTPRecipientsRefused as fault:
             codes = [code for code, _ in fault.recipients.values()]
             self.put_off(fax, fault, all(500 <= code < 600 for code in codes))
-        except (OSError, smtplib.SMTPException, subprocess.SubprocessError) as fault:
+        except Exception as fault:  # of whatever kind, it keeps no other notice from being sent
             self.put_off(fax, fault, False)
         else:
             self.later.pop(fax["id"], None)
@@ -83,7 +83,7 @@ class Notices:
             self.store.change(fax["id"], is_told=1)
             return
         pause = min(2 * self.later.get(fax["id"], (0, self.settings.pause))[1], LONGEST)
-        self.later[fax["id"]] = time.time() + pause, pause
+        self.later[fax["id"]] = time.monotonic() + pause, pause
 
     def send(self, fax):
         if self.settings.smtp:

@@ -10,6 +10,8 @@ def sentence(fax):
     """What happens next with a fax, or what became of it."""
     if fax["stage"] in ("unusable", "refused"):
         return fax["reason"]
+    if fax["reason"] and fax["stage"] != "submitted":
+        return "It is being given up."
     if fax["stage"] == "uploaded":
         return "The file is being converted."
     if fax["stage"] == "ready" or fax["state"] is None:
@@ -17,7 +19,7 @@ def sentence(fax):
     pages = f"{fax['confirmed']} of {fax['pages']} pages"
     later = fax["send_at"] and fax["send_at"] > time.time()
     return {
-        0: "The queue doesn't have its job any more.",
+        0: f"The queue doesn't have its job any more. {pages} were confirmed, and the others may not have been sent.",
         1: "It is suspended. Resume lets it continue.",
         2: f"It goes at {shown(fax['send_at'])}." if later else "It waits for the hours in which the number may be called.",
         3: f"It was tried{': ' + fax['status'] if fax['status'] else ''}. The next try follows.",

@@ -30,6 +30,12 @@ class Settings:
     pages: int = 100
     seconds: int = 60
     memory: int = 1024
+    # Limits of a user: faxes that aren't over, and megabytes of uploads and documents within 24 hours.
+    waiting: int = 1000
+    daily: int = 1000
+    # Days after which a fax that is over is deleted with its documents; 0 keeps them. The newest fax stays. A form or a mail
+    # that comes again after that is another fax; mail servers try for 5 days.
+    days: int = 0
     # The paper: a4, letter or legal.
     paper: str = "a4"
     # Mail to owners when a fax is over: the mail server as host:port, which asks for neither TLS nor a login, as one on this machine;
@@ -38,6 +44,9 @@ class Settings:
     sender: str = "fax@localhost"
     domain: str = "localhost"
     addresses: dict = dataclasses.field(default_factory=dict)
+    # Where mail servers of this machine deliver mails that become faxes, by LMTP (python3-aiosmtpd), as 127.0.0.1:4562. As at
+    # `listen`, everybody on this machine can act as any user.
+    lmtp: str = ""
     # Without smtp, a command that gets the number of the fax, its owner and `done` or `failed` as arguments, and the text.
     notice: tuple = ()
     # The desk's address as people have it, as https://fax.office.example: for links in mails, and needed behind a proxy.
@@ -51,9 +60,9 @@ class Settings:
     def place(self):
         return pathlib.Path(self.folder)
 
-    def address(self):
-        """Where the desk listens: host and port."""
-        host, _, port = self.listen.rpartition(":")
+    def address(self, name="listen"):
+        """The host and the port of a setting."""
+        host, _, port = getattr(self, name).rpartition(":")
         return host.strip("[]"), int(port)
 
     def cover_page(self, number, name, owner, note):
@@ -93,8 +102,8 @@ def read_settings(file):
             raise Fault(f"{file}: {name} isn't {WORDS[kinds[name]]}", 2)
         if kinds[name] is dict and not all(isinstance(one, str) for one in value.values()):
             raise Fault(f"{file}: {name} isn't {WORDS[dict]}", 2)
-        if kinds[name] in (int, float) and not 0 < value < math.inf:
-            raise Fault(f"{file}: {name} has to be above 0", 2)
+        if kinds[name] in (int, float) and not (0 < value < math.inf or name == "days" and value == 0):
+            raise Fault(f"{file}: {name} has to be {'0 or above' if name == 'days' else 'above 0'}", 2)
     settings = Settings(**values)
     if settings.paper not in PAPERS:
         raise Fault(f"{file}: paper is none of {', '.join(PAPERS)}", 2)
@@ -102,7 +111,7 @@ def read_settings(file):
         settings.cover_page("", "", "", "")
     except (OSError, ValueError, LookupError, AttributeError) as fault:
         raise Fault(f"{file}: cover: {fault}", 2) from None
-    for name in "listen", "smtp":
+    for name in "listen", "smtp", "lmtp":
         if not re.fullmatch(r"\S+:[0-9]{1,5}|", getattr(settings, name)) or name == "listen" and not settings.listen:
             raise Fault(f"{file}: {name} isn't a host and a port, as 127.0.0.1:4560", 2)
     return settings

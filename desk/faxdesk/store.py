@@ -23,6 +23,7 @@ CREATE INDEX faxes_to_tell ON faxes (id) WHERE is_told = 0;
 PRAGMA user_version = 1;
 """
 VERSION = 1
+IS_OVER = "(stage IN ('unusable', 'refused') OR ifnull(state, 1) IN (0, 7, 8))"
 
 
 class Store:
@@ -70,23 +71,51 @@ class Store:
     def fax(self, number):
         return next(iter(self.rows("WHERE id = ?", number)), None)
 
-    def newest(self, owner, most=200):
-        """The newest faxes of an owner, or without one of everybody. Those that failed come first."""
-        mine, values = ("WHERE owner = ?", (owner,)) if owner else ("", ())
-        found = self.rows(f"{mine} ORDER BY id DESC LIMIT ?", *values, most)
-        return sorted(found, key=lambda fax: not has_failed(fax))
+    def newest(self, owner, before, most=200):
+        """The newest faxes of an owner, or without one of everybody, whose numbers are below this, and whether there are older
+        ones. Those that failed come first."""
+        mine, values = ("owner = ? AND", (owner,)) if owner else ("", ())
+        found = self.rows(f"WHERE {mine} id < ? ORDER BY id DESC LIMIT ?", *values, before, most + 1)
+        return sorted(found[:most], key=lambda fax: not has_failed(fax)), len(found) > most
 
     def at(self, stage):
         return self.rows("WHERE stage = ? ORDER BY id", stage)
 
     def to_tell(self):
         """The faxes that are over, and whose owners don't know it yet."""
-        return self.rows("WHERE is_told = 0 AND (state IN (7, 8) OR stage IN ('unusable', 'refused')) ORDER BY id")
+        return self.rows(f"WHERE is_told = 0 AND {IS_OVER} ORDER BY id")
 
     def unfinished(self):
         """The faxes whose jobs aren't over, as far as is known."""
         return self.rows("WHERE stage = 'submitted' AND (state IS NULL OR state BETWEEN 1 AND 6) ORDER BY id")
 
+    # ---- limits
+
+    def waiting(self, owner):
+        """How many faxes of an owner aren't over."""
+        with self.work() as database:
+            return database.execute(f"SELECT count(*) FROM faxes WHERE owner = ? AND NOT {IS_OVER}", (owner,)).fetchone()[0]
+
+    def since(self, owner, moment):
+        """The faxes of an owner that were submitted since then."""
+        return self.rows("WHERE owner = ? AND created >= ?", owner, moment)
+
+    def over_before(self, moment):
+        """The faxes that were over before this, if their owners know it. The newest of all stays: SQLite would give its number
+        again."""
+        return self.rows(f"WHERE is_told = 1 AND {IS_OVER} AND max(created, ifnull(ended, 0)) < ? "
+                         "AND id < (SELECT max(id) FROM faxes)", moment)
+
+    def delete(self, fax):
+        with self.work() as database:
+            database.execute("DELETE FROM faxes WHERE id = ?", (fax,))
+
+    def files(self):
+        """The names of all uploads and documents of faxes."""
+        with self.work() as database:
+            found = database.execute("SELECT uploads || ' ' || ifnull(document, '') FROM faxes")
+            return {name for names, in found for name in names.split()}
+
 
 def has_failed(fax):
-    return fax["stage"] in ("unusable", "refused") or fax["state"] == 8
+    return fax["stage"] in ("unusable", "refused") or fax["state"] in (0, 8)

@@ -19,6 +19,7 @@ class Away(Exception):
 def submit(address, user, fields, files):
     """Submits a fax, and returns its number at the desk. The fields have its token."""
     body, kind = form_of(fields, files)
+    user = user.encode(errors="surrogateescape").decode("latin-1")  # the bytes, as a header has them
     connection = http.client.HTTPConnection(*address, timeout=LIMIT)
     try:
         connection.request("POST", "/faxes", body, {"Content-Type": kind, "X-Remote-User": user, "Accept": "application/json"})

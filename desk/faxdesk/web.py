@@ -4,6 +4,8 @@ import io
 import ipaddress
 import re
 import secrets
+import sqlite3
+import threading
 import urllib.parse
 
 import flask
@@ -12,12 +14,14 @@ import werkzeug.exceptions
 from .client import NAME, STATES
 from .documents import LINES, Unusable, has_control
 from .sentences import sentence, shown
+from .store import has_failed
 
 MOST_NAME = 200  # bytes of a fax's name, as a job tag has them
 MORE = 10**6  # bytes of a form beside its files
 MOST_FILES = 20
 MOST_FILE_NAME = 100  # bytes of a file's name that are kept
 LAST_MOMENT = 4102444800  # the last one that the queue takes
+LAST_FAX = 2**63 - 1  # the greatest number of a row in SQLite
 MOST_NOTE = 2000  # characters of the note on a cover page
 ACTIONS = {"suspend": (2, 3, 4, 5, 6), "resume": (1,), "kill": (1, 2, 3, 4, 5, 6)}  # by the states of jobs
 
@@ -39,16 +43,17 @@ def number_in(text):
 
 
 def name_in(text):
-    """The name that a user gave a fax: one line."""
+    """The name that a user gave a fax: one line. What wasn't UTF-8 has become U+FFFD."""
     name = re.sub(r"\s+", " ", text).strip()
-    if len(name.encode()) > MOST_NAME or has_control(name):
-        raise Refused(400, f"The name is one line of at most {MOST_NAME} bytes.")
+    if len(name.encode()) > MOST_NAME or has_control(name) or "\ufffd" in name:
+        raise Refused(400, f"The name is one line of at most {MOST_NAME} bytes in UTF-8.")
     return name
 
 
 def file_name_in(text):
-    """The name of an uploaded file without its folder, or the end of a long one."""
-    return name_in(text.replace("\\", "/").rpartition("/")[2].encode()[-MOST_FILE_NAME:].decode(errors="ignore"))
+    """The name of an uploaded file without its folder and control characters, or the end of a long one."""
+    name = text.replace("\\", "/").rpartition("/")[2].encode()[-MOST_FILE_NAME:].decode(errors="ignore")
+    return " ".join("".join(" " if has_control(letter) else letter for letter in name).split()) or "file"
 
 
 def moment_in(text):
@@ -73,8 +78,9 @@ def as_json(fax):
 def application(settings, store, documents, clerk):
     app = flask.Flask("faxdesk")
     app.config["MAX_CONTENT_LENGTH"] = settings.megabytes * 10**6 + MORE
-    app.jinja_env.globals.update(sentence=sentence, shown=shown, STATES=STATES, clerk=clerk, settings=settings)
-    request = flask.request
+    app.jinja_env.globals.update(sentence=sentence, shown=shown, has_failed=has_failed, STATES=STATES, clerk=clerk,
+                                 settings=settings)
+    request, one_by_one = flask.request, threading.Lock()
 
     # ---- who
 
@@ -83,8 +89,10 @@ def application(settings, store, documents, clerk):
         if not ipaddress.ip_address(request.remote_addr).is_loopback:
             raise Refused(403, "Only this machine may ask the desk.")
         name = request.headers.get("X-Remote-User") or settings.user
-        if not re.fullmatch(NAME, name):
+        if not name:
             raise Refused(403, "The proxy states no user's name in X-Remote-User.")
+        if not re.fullmatch(NAME, name):
+            raise Refused(403, "The user's name isn't 1 to 32 letters, digits, '.', '_' and '-'.")
         return name
 
     def is_administrator():
@@ -92,7 +100,7 @@ def application(settings, store, documents, clerk):
 
     def own_fax(number):
         """The fax of that number, which is the user's own, or any for administrators."""
-        fax = store.fax(number)
+        fax = store.fax(number) if number <= LAST_FAX else None
         if not fax or fax["owner"] != who() and not is_administrator():
             raise Refused(404, "There is no such fax.")
         return fax
@@ -107,9 +115,9 @@ def application(settings, store, documents, clerk):
             raise Refused(421, f"The desk isn't known as {request.host}: its setting `link` is its address.")
         if request.method != "POST":
             return
-        origin = request.headers.get("Origin")
-        foreign = origin is not None and urllib.parse.urlsplit(origin).netloc != request.host
-        if foreign or request.headers.get("Sec-Fetch-Site", "none") not in ("same-origin", "none"):
+        own = f"http://{request.host}", f"https://{request.host}"
+        site = request.headers.get("Sec-Fetch-Site", "none")
+        if request.headers.get("Origin", own[0]) not in own or site not in ("same-origin", "none"):
             raise Refused(403, "The form is of another site.")
 
     # ---- replies
@@ -137,6 +145,12 @@ def application(settings, store, documents, clerk):
         sentences = {413: f"The file has more than {settings.megabytes} MB.", 404: "There is no such page."}
         return refuse(Refused(why.code, sentences.get(why.code, why.description)))
 
+    @app.errorhandler(OSError)
+    @app.errorhandler(sqlite3.OperationalError)
+    def refuse_unstored(fault):
+        clerk.has_fault()
+        return refuse(Refused(503, f"The desk can't store or read it now: {getattr(fault, 'strerror', None) or fault}."))
+
     @app.after_request
     def restrict_contents(reply):
         reply.headers["Content-Security-Policy"] = (
@@ -150,21 +164,36 @@ def application(settings, store, documents, clerk):
 
     # ---- pages
 
+    def listed():
+        """The user's faxes, or all for administrators: the newest, or those before the number that the query states; and
+        whether there are older ones."""
+        before = request.args.get("before", LAST_FAX, int)
+        return store.newest(None if is_administrator() else who(), max(0, min(before, LAST_FAX)))
+
     @app.get("/")
     def index():
-        user = who()
+        user, (faxes, more) = who(), listed()
+        older = min(fax["id"] for fax in faxes) if more else None
         return flask.render_template("index.html", user=user, all=is_administrator(), token=secrets.token_urlsafe(16),
-                                     faxes=store.newest(None if is_administrator() else user))
+                                     faxes=faxes, older=older, is_newest="before" not in request.args)
 
     @app.get("/faxes")
     def listing():
-        user = who()
-        return {"faxes": [as_json(fax) for fax in store.newest(None if is_administrator() else user)]}
+        return {"faxes": [as_json(fax) for fax in listed()[0]]}
+
+    def refuse_over_limit(user):
+        """Refuses a fax of a user who has as many as the settings allow."""
+        if store.waiting(user) >= settings.waiting:
+            raise Refused(429, f"You have {settings.waiting} faxes that aren't over, and can't have more at the same time.")
+        if clerk.stored(user) + (request.content_length or 0) > settings.daily * 10**6:
+            raise Refused(429, f"Your files of the last 24 hours would take more than {settings.daily} MB.")
 
     @app.post("/faxes")
     def submit():
         """Accepts a fax. The same form again is the same fax, by its token."""
         user, form = who(), request.form
+        if not form:
+            raise Refused(400, "The form can't be read: it isn't multipart/form-data in UTF-8, or a part of it is missing.")
         token = form.get("token", "")
         if not re.fullmatch(r"[A-Za-z0-9._~-]{8,64}", token):
             raise Refused(400, "The form has no token: 8 to 64 letters, digits, '.', '_', '~' and '-', new for each fax.")
@@ -182,8 +211,11 @@ def application(settings, store, documents, clerk):
             raise Refused(400, f"The note has at most {MOST_NOTE} characters.")
         if form.get("cover") and (page := settings.cover_page(values["number"], values["name"], user, note)):
             streams.insert(0, io.BytesIO(page.encode()))
-        values["uploads"] = " ".join(map(documents.store, streams))
-        fax = store.add(user, token, **values, file_name=names, stage="uploaded")
+        with one_by_one:
+            if not store.with_token(user, token):
+                refuse_over_limit(user)
+            values["uploads"] = " ".join(map(documents.store, streams))
+            fax = store.add(user, token, **values, file_name=names, stage="uploaded")
         if any(fax[name] != value for name, value in values.items()):
             raise Refused(409, f"This form was sent before, as fax {fax['id']}. Load the page again for another fax.")
         return answer(fax)
@@ -201,25 +233,28 @@ def application(settings, store, documents, clerk):
         if not fax["document"] or not 1 <= page <= fax["pages"]:
             raise Refused(404, "There is no such page.")
         reply = flask.make_response(documents.preview(fax["document"], page))
-        reply.headers.update({"Content-Type": "image/png", "Cache-Control": "private, max-age=86400"})
-        return reply
+        reply.headers.update({"Content-Type": "image/png", "Cache-Control": "private, no-cache"})  # of this user alone
+        reply.set_etag(f"{fax['document']}.{page}")
+        return reply.make_conditional(request)
 
     # ---- changes
 
     def actions(fax):
         """What can be done with a fax: with its job, or a new one with the pages that weren't confirmed."""
-        if fax["stage"] != "submitted" or not fax["state"]:
+        if fax["stage"] in ("uploaded", "ready"):
+            return [] if fax["reason"] else ["kill"]
+        if fax["stage"] != "submitted" or fax["state"] is None:
             return []
         found = [action for action, states in ACTIONS.items() if fax["state"] in states]
-        return found + ["again"] if fax["state"] == 8 and fax["confirmed"] < fax["pages"] else found
+        return found + ["again"] if has_failed(fax) and fax["confirmed"] < fax["pages"] else found
 
     @app.post("/faxes/<int:number>/<any(suspend, resume, kill):action>")
     def act(number, action):
         fax = own_fax(number)
         if action not in actions(fax):
             raise Refused(409, f"This can't be done now. {sentence(fax)}")
-        clerk.keep_action(fax, action)
-        return answer(fax, 202)
+        clerk.act(fax, action)
+        return answer(store.fax(number), 202)
 
     @app.post("/faxes/<int:number>/again")
     def again(number):

@@ -19,8 +19,8 @@ use Rattle.sqlite_sql.specs.Term.{Term}
 use Rattle.sqlite_trees.specs.Tree.{Trees}
 use Rattle.sqlite_trees.proofs.ListLemmas.{all_of, filter_all}
 use Rattle.fax_check.specs.Whole.{Each}
-use Rattle.fax_schema.proofs.EditLemmas.{has_mapped, has_permuted}
-use Rattle.fax_schema.proofs.SelectLemmas.{answers, passes, show}
+use Rattle.fax_layout.proofs.EditLemmas.{has_mapped, has_permuted}
+use Rattle.fax_layout.proofs.SelectLemmas.{answers, passes, show}
 use Rattle.fax_schema.proofs.StatementForms.{Selects}
 use Rattle.fax_schema.specs.Schema.{our_tables}
 

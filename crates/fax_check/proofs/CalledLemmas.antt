@@ -16,10 +16,10 @@ use Rattle.fax_check.proofs.BridgeLemmas.{at_is, shows, two}
 use Rattle.fax_check.proofs.ShapeLemmas as shape
 use Rattle.fax_schema.specs.Schema.{calls_tree}
 use Rattle.fax_schema.specs.declared.statements.TheConstants.{SELECT_OPEN}
-use Rattle.fax_schema.proofs.CompareLemmas.{are_equal, equal_texts}
-use Rattle.fax_schema.proofs.EditLemmas.{one_shown, shown_one}
+use Rattle.fax_layout.proofs.CompareLemmas.{are_equal, equal_texts}
+use Rattle.fax_layout.proofs.EditLemmas.{one_shown, shown_one}
 use Rattle.fax_schema.proofs.GrantTexts.{call_tests, call_project, select_open}
-use Rattle.fax_schema.proofs.SelectLemmas.{passes, show}
+use Rattle.fax_layout.proofs.SelectLemmas.{passes, show}
 use Rattle.fax_tables.specs.Row.{HasNumber, HasValue, call_columns, number}
 
 module _ (old new : State) (db : Database) (stored : IsStored db) (now : old.now ≡ db) (held : List Holder) (h : Holder) (rows : List Row)

@@ -27,8 +27,8 @@ use Rattle.fax_core.specs.Queue.{Queue, open_grants}
 use Rattle.fax_core.specs.Sound.{FitsGrant, Sound}
 use Rattle.fax_core.specs.declared.grants.Grant.{Grant}
 use Rattle.fax_check.proofs.TableLemmas.{all_holds_project}
-use Rattle.fax_schema.proofs.ColumnLemmas.{record_of}
-use Rattle.fax_schema.proofs.SelectLemmas.{show}
+use Rattle.fax_layout.proofs.ColumnLemmas.{record_of}
+use Rattle.fax_layout.proofs.SelectLemmas.{show}
 use Rattle.fax_schema.specs.Schema.{holds_tree}
 use Rattle.fax_tables.specs.Job.{IsLawfulJob}
 use Rattle.fax_tables.specs.Meta.{meta_of}

@@ -15,9 +15,9 @@ use Rattle.sqlite_value.specs.Keys.{plain}
 use Rattle.fax_check.proofs.FieldLemmas.{numbers}
 use Rattle.fax_check.proofs.OnceLemmas.{behind, one_of_key, text_same}
 use Rattle.fax_value.specs.Name.{IsName}
-use Rattle.fax_schema.specs.ByRowid.{IsByRowid}
-use Rattle.fax_schema.proofs.ColumnLemmas.{row_of as row_with}
-use Rattle.fax_schema.proofs.EditLemmas.{has_mapped}
+use Rattle.fax_layout.specs.ByRowid.{IsByRowid}
+use Rattle.fax_layout.proofs.ColumnLemmas.{row_of as row_with}
+use Rattle.fax_layout.proofs.EditLemmas.{has_mapped}
 use Rattle.fax_tables.specs.Row.{floor_columns}
 use Rattle.fax_tables.specs.Tables.{AreCounted, AreLawfulFloors}
 use Rattle.fax_tables.proofs.FreeLemmas.{none_found}

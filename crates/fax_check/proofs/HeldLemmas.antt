@@ -21,8 +21,8 @@ use Rattle.fax_check.proofs.FieldLemmas.{numbers}
 use Rattle.fax_check.proofs.MadeLemmas.{AreApart, apart_permuted, ascending_in}
 use Rattle.fax_check.proofs.OnceLemmas.{behind, grants_once, jobs_once, modems_once, one_of_key, text_same}
 use Rattle.fax_schema.specs.Schema.{holds_tree}
-use Rattle.fax_schema.proofs.ColumnLemmas.{record_of, row_of as row_with}
-use Rattle.fax_schema.proofs.CompareLemmas.{are_equal, number_same}
+use Rattle.fax_layout.proofs.ColumnLemmas.{record_of, row_of as row_with}
+use Rattle.fax_layout.proofs.CompareLemmas.{are_equal, number_same}
 use Rattle.fax_tables.specs.Row.{number}
 
 module _ (db : Database) (stored : IsStored db) (held : List Holder) (same : IsPermutation (map holder_columns held) (map (drop 1) (db.trees holds_tree))) where

@@ -22,8 +22,8 @@ use Rattle.fax_job.specs.declared.job.JobFields.{JobFields}
 use Rattle.fax_schema.specs.Schema.{grants_tree, holds_tree, jobs_tree}
 use Rattle.fax_check.specs.declared.tables.TheConstants.{SELECT_ALL_HOLDS}
 use Rattle.fax_check.proofs.TableLemmas.{all_holds_project, select_all_holds}
-use Rattle.fax_schema.proofs.SelectLemmas.{show}
-use Rattle.fax_schema.proofs.EditLemmas.{has_mapped, has_permuted}
+use Rattle.fax_layout.proofs.SelectLemmas.{show}
+use Rattle.fax_layout.proofs.EditLemmas.{has_mapped, has_permuted}
 use Rattle.fax_tables.specs.Row.{HasNumber, HasValue, HasValues, grant_row, job_row, number}
 
 -- the holder of the grant that a row shows is right

@@ -34,11 +34,11 @@ use Rattle.sqlite_value.specs.Order.{value_cmp}
 use Rattle.sqlite_value.proofs.OrderLemmas.{value_cmp-Int, value_cmp_total}
 use Rattle.fax_check.proofs.BridgeLemmas.{of_all}
 use Rattle.fax_check.proofs.LookLemmas.{equal_is}
-use Rattle.fax_schema.specs.ByRowid.{IsByRowid}
+use Rattle.fax_layout.specs.ByRowid.{IsByRowid}
 use Rattle.fax_schema.specs.Schema.{our_tables}
-use Rattle.fax_schema.proofs.CompareLemmas.{are_equal, compared}
-use Rattle.fax_schema.proofs.EditLemmas.{has_mapped, has_permuted}
-use Rattle.fax_schema.proofs.SelectLemmas.{rows_by}
+use Rattle.fax_layout.proofs.CompareLemmas.{are_equal, compared}
+use Rattle.fax_layout.proofs.EditLemmas.{has_mapped, has_permuted}
+use Rattle.fax_layout.proofs.SelectLemmas.{rows_by}
 use Rattle.fax_schema.proofs.StatementForms.{SelectsAll, equals}
 
 -- by the rowid of the second and this column of the first

@@ -27,13 +27,13 @@ use Rattle.fax_core.proofs.FitsLemmas.{record_again}
 use Rattle.fax_core.specs.declared.grants.Grant.{Grant}
 use Rattle.fax_job.specs.Job.{IsLawful}
 use Rattle.fax_job.specs.declared.job.JobFields.{JobFields}
-use Rattle.fax_schema.specs.ByRowid.{IsByRowid}
+use Rattle.fax_layout.specs.ByRowid.{IsByRowid}
 use Rattle.fax_schema.specs.Schema.{our_tables, grants_tree, jobs_tree}
 use Rattle.fax_schema.specs.declared.statements.TheConstants.{SELECT_GRANT, SELECT_JOB}
-use Rattle.fax_schema.proofs.CompareLemmas.{are_equal, compared, number_same}
-use Rattle.fax_schema.proofs.EditLemmas.{shown_one}
+use Rattle.fax_layout.proofs.CompareLemmas.{are_equal, compared, number_same}
+use Rattle.fax_layout.proofs.EditLemmas.{shown_one}
 use Rattle.fax_schema.proofs.GrantTexts.{grant_names, grant_project, grant_tests, select_grant}
-use Rattle.fax_schema.proofs.SelectLemmas.{passes, show}
+use Rattle.fax_layout.proofs.SelectLemmas.{passes, show}
 use Rattle.fax_schema.proofs.StatementForms.{Selects}
 use Rattle.fax_schema.proofs.StatementTexts.{job_names, job_project, job_tests, select_job}
 use Rattle.fax_store.specs.Grant.{GrantStands}

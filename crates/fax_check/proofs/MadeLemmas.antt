@@ -15,7 +15,7 @@ use Rattle.sqlite_trees.proofs.ListLemmas.{along_permutation, ascending_from_map
 use Rattle.sqlite_value.specs.Order.{value_cmp}
 use Rattle.sqlite_value.proofs.OrderLemmas.{value_cmp-Int}
 use Rattle.fax_core.specs.Sound.{AscendBetween}
-use Rattle.fax_schema.proofs.EditLemmas.{has_mapped, has_permuted}
+use Rattle.fax_layout.proofs.EditLemmas.{has_mapped, has_permuted}
 use Rattle.fax_tables.specs.Row.{number}
 
 -- ---- lists made of records

@@ -32,8 +32,8 @@ use Rattle.fax_core.specs.State.{calls_to, is_of_number}
 use Rattle.fax_core.specs.declared.grants.Grant.{Grant}
 use Rattle.fax_value.specs.Name.{IsName}
 use Rattle.fax_job.specs.declared.job.JobFields.{JobFields}
-use Rattle.fax_schema.proofs.ColumnLemmas.{record_of}
-use Rattle.fax_schema.proofs.EditLemmas.{has_mapped, has_permuted}
+use Rattle.fax_layout.proofs.ColumnLemmas.{record_of}
+use Rattle.fax_layout.proofs.EditLemmas.{has_mapped, has_permuted}
 use Rattle.fax_schema.specs.Schema.{calls_tree, down_tree, floors_tree, grants_tree, holds_tree, jobs_tree, replies_tree, times_tree}
 use Rattle.fax_tables.proofs.KeyLemmas.{only_numbered}
 use Rattle.fax_tables.specs.Job.{IsLawfulJob}

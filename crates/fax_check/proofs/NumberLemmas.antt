@@ -13,7 +13,7 @@ use Rattle.sqlite_rules.proofs.TableLemmas.{int_is}
 use Rattle.sqlite_sql.specs.declared.ops.CompareOp.TheVariants.{Eq}
 use Rattle.sqlite_value.proofs.OrderLemmas.{value_cmp-Int}
 use Rattle.std.specs.Ordering.{int_cmp, is_eq}
-use Rattle.fax_schema.specs.ByRowid.{IsByRowid}
+use Rattle.fax_layout.specs.ByRowid.{IsByRowid}
 use Rattle.fax_check.specs.Check.{AreNumbers, IsOfVersion}
 use Rattle.fax_check.specs.Reading.{known_of}
 use Rattle.fax_check.specs.Sound.{IsSound, IsStored}
@@ -23,7 +23,7 @@ use Rattle.fax_check.proofs.ShapeLemmas as shape
 use Rattle.fax_core.specs.Queue.{Queue}
 use Rattle.fax_schema.specs.Schema.{meta_tree}
 use Rattle.fax_schema.specs.declared.statements.TheConstants.{SELECT_META}
-use Rattle.fax_schema.proofs.CompareLemmas.{are_equal, compared, same_number}
+use Rattle.fax_layout.proofs.CompareLemmas.{are_equal, compared, same_number}
 use Rattle.fax_schema.proofs.StatementTexts.{meta_project, meta_tests, select_meta}
 use Rattle.fax_store.specs.Store.{FindsRow}
 use Rattle.fax_store.proofs.FoundLemmas.{one_passes}

@@ -25,11 +25,11 @@ use Rattle.sqlite_sql.specs.declared.ops.CompareOp.TheVariants.{Ne}
 use Rattle.sqlite_value.specs.Keys.{plain}
 use Rattle.sqlite_value.specs.Order.{value_cmp}
 use Rattle.sqlite_value.proofs.KeyLemmas.{first_key-plain}
-use Rattle.fax_schema.specs.ByRowid.{IsByRowid}
+use Rattle.fax_layout.specs.ByRowid.{IsByRowid}
 use Rattle.fax_schema.specs.Schema as schema
 use Rattle.fax_schema.specs.Schema.{our_tables, floors_tree, holds_tree}
-use Rattle.fax_schema.proofs.RowsLemmas.{listed_at}
-use Rattle.fax_schema.proofs.CompareLemmas.{are_equal, compared, equal_texts}
+use Rattle.fax_layout.proofs.RowsLemmas.{listed_at}
+use Rattle.fax_layout.proofs.CompareLemmas.{are_equal, compared, equal_texts}
 
 -- ---- columns
 

@@ -20,7 +20,7 @@ use Rattle.sqlite_schema.specs.declared.schema.Constraint.TheVariants.{Datatype,
 use Rattle.sqlite_schema.specs.declared.schema.Table.{Table}
 use Rattle.sqlite_sql.specs.Ops.{is_null}
 use Rattle.fax_check.specs.Sound.{IsStored}
-use Rattle.fax_schema.proofs.RowsLemmas.{listed_at}
+use Rattle.fax_layout.proofs.RowsLemmas.{listed_at}
 use Rattle.fax_schema.specs.Schema as schema
 use Rattle.fax_schema.specs.Schema.{our_tables, calls_place, calls_tree, grants_tree, holds_tree, jobs_tree, meta_tree, replies_tree, times_tree}
 

@@ -25,7 +25,7 @@ use Rattle.fax_check.proofs.FieldLemmas.{numbers}
 use Rattle.fax_check.proofs.JoinLemmas.{each_joined, joined_each, joined_query, only_partner, partner_there, partners}
 use Rattle.fax_check.proofs.ShapeLemmas as shape
 use Rattle.fax_schema.proofs.GrantTexts.{grant_names, grant_project}
-use Rattle.fax_schema.proofs.SelectLemmas.{show}
+use Rattle.fax_layout.proofs.SelectLemmas.{show}
 use Rattle.fax_schema.proofs.StatementForms.{Selects, SelectsAll}
 use Rattle.fax_schema.proofs.StatementTexts.{job_names, job_project}
 use Rattle.fax_schema.specs.Schema as schema

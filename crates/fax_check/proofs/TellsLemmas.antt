@@ -21,7 +21,7 @@ use Rattle.fax_store.proofs.StoreLemmas.{cleaner}
 use Rattle.fax_store.proofs.WorkLemmas.{reads_refused}
 use Rattle.fax_tables.specs.declared.fault.StoreFault.{StoreFault}
 use Rattle.fax_tables.specs.declared.fault.StoreFault.TheVariants.{Unavailable}
-use Rattle.fax_tables.proofs.StopLemmas.{nothing_then}
+use Rattle.fax_layout.proofs.StopLemmas.{nothing_then}
 
 -- what is undone behind a call that changes nothing is undone of what was before
 left_then : (a b c : State) → IsUnchanged a b → LeavesCommit b c → LeavesCommit a c

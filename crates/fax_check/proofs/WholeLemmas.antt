@@ -42,7 +42,7 @@ use Rattle.fax_value.specs.Limits.{last_job, last_moment}
 use Rattle.fax_value.specs.Name.{IsName}
 use Rattle.fax_job.specs.declared.job.JobFields.{JobFields}
 use Rattle.fax_schema.specs.Schema.{calls_tree, down_tree, floors_tree, grants_tree, holds_tree, jobs_tree, replies_tree, times_tree}
-use Rattle.fax_schema.proofs.EditLemmas.{has_mapped}
+use Rattle.fax_layout.proofs.EditLemmas.{has_mapped}
 use Rattle.fax_tables.specs.Job.{IsLawfulJob}
 use Rattle.fax_tables.specs.Row.{job_row, grant_row, hold_columns, down_columns, entry_columns, call_columns, number, phase_number, times_row}
 use Rattle.fax_tables.specs.Tables.{AreCounted, AreLawfulTimes, HaveJobs, IsLawfulGrant, TablesMean}

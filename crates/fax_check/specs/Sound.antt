@@ -5,7 +5,7 @@ use Rattle.fax_core.specs.Ledger.{Ledger}
 use Rattle.fax_core.specs.Queue.{Queue}
 use Rattle.fax_check.specs.Consistent.{Consistent}
 use Rattle.fax_check.specs.Whole.{AreWhole, Holder}
-use Rattle.fax_schema.specs.ByRowid.{IsByRowid}
+use Rattle.fax_layout.specs.ByRowid.{IsByRowid}
 use Rattle.fax_schema.specs.Schema.{our_tables, meta_tree}
 use Rattle.fax_tables.specs.Tables.{AreByRowid, TablesMean}
 use Rattle.fax_tables.specs.declared.meta.Meta.{Meta}

@@ -28,7 +28,7 @@ use Rattle.fax_core.proofs.PlaceLemmas.{none_passes, in_found, length_more}
 use Rattle.fax_core.proofs.StepLemmas.{aged_sound}
 use Rattle.fax_tables.specs.Job.{IsLawfulJob}
 use Rattle.fax_tables.specs.declared.prospect.Prospect.{Prospect}
-use Rattle.fax_schema.proofs.EditLemmas.{has_mapped, has_permuted}
+use Rattle.fax_layout.proofs.EditLemmas.{has_mapped, has_permuted}
 use Rattle.fax_store.specs.Candidates.{AreAsked, Gives, IsProspect, StandsAt, is_behind, is_other}
 use Rattle.fax_store.specs.declared.candidates.Asked.{Asked}
 use Rattle.fax_store.specs.declared.candidates.Front.{Front}

@@ -22,7 +22,7 @@ use Rattle.fax_core.proofs.FitsLemmas.{job_again, record_again}
 use Rattle.fax_tables.specs.Job.{IsLawfulJob, brief}
 use Rattle.fax_text.specs.Listing.{Listed, heading, line_of, listing_of, number_of}
 use Rattle.fax_run.specs.View.{newest, viewed, view, with_state}
-use Rattle.fax_schema.proofs.ColumnLemmas.{all_kept}
+use Rattle.fax_layout.proofs.ColumnLemmas.{all_kept}
 use Rattle.fax_store.specs.Job.{jobs_from}
 use Rattle.fax_decide.specs.Newest.{HasNewest, InBrief}
 use Rattle.fax_decide.proofs.NewestLemmas.{ascend_drop, is_later, newest_later, newest_map}

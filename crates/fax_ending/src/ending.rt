@@ -56,6 +56,17 @@ impl<'a> Ending<'a> {
         Ending::fault(FaultLine::of(what, Place::Nowhere))
     }
 
+    /// No answer has come yet, and a line of these words says so.
+    pub fn later(what: &'a str) -> Ending<'a>
+        ensures status { result.status ≡ Status.Later }
+        ensures says { spoken result ≡ what.now ++ 10 ∷ [] }
+    {
+        Ending {
+            status: Status::Later,
+            line: Some(FaultLine::of(what, Place::Nowhere)),
+        }
+    }
+
     /// The words of the command are wrong, and this line says how.
     pub fn usage(line: FaultLine<'a>) -> Ending<'a>
         ensures status { result.status ≡ Status.Usage }

@@ -17,7 +17,7 @@ use std::io;
 const LOG_PAGES: usize = 8_000;
 
 /// The engine over the file of this name, and the log beside it.
-pub(crate) fn connect<S: Start>(
+pub fn connect<S: Start>(
     rt: &HostRuntime,
     name: &str,
     start: S,

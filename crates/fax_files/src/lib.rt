@@ -8,6 +8,7 @@ mod office;
 mod shown;
 mod spool;
 
+pub use connection::connect;
 pub use database::{OpenFault, open_ending, open_found_store, open_store};
 pub use new_file::make_file;
 pub use office::{OfficeFault, office_ending, read_office};

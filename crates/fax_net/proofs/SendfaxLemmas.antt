@@ -14,7 +14,7 @@ use Rattle.fax_http.specs.Clock.{IsMoment}
 use Rattle.fax_net.specs.Sendfax.{Handed, Makes, Prints, Replies, Sends, Tells, refusal}
 use Rattle.fax_ending.specs.Ending.{no_memory}
 use Rattle.fax_text.specs.declared.status.Status.{Status}
-use Rattle.fax_text.specs.declared.status.Status.TheVariants.{Success, Fault, Usage, Unused}
+use Rattle.fax_text.specs.declared.status.Status.TheVariants.{Success, Fault, Usage, Unused, Later}
 
 module _ {W : Type 0} (contents : W → Option (List ℕ)) (out out₂ : Watched W) (plan : SendPlan) (moment : ℕ) (at : IsMoment plan.moment moment) where
   -- the fault that a request has is the plan's
@@ -28,10 +28,12 @@ module _ {W : Type 0} (contents : W → Option (List ℕ)) (out out₂ : Watched
   prints_of (Ok text) given Fault line told = inr (text.items, (moment, at, given), told.0, told.1)
   prints_of (Ok text) given Usage line told = absurd told
   prints_of (Ok text) given Unused line told = absurd told
+  prints_of (Ok text) given Later line told = absurd told
   prints_of (Err fault) given Success line told = absurd told
   prints_of (Err fault) given Fault line told = inl (told.0, told.2)
   prints_of (Err fault) given Usage line told = (told.0, fault, fault_of fault given told.1, told.2)
   prints_of (Err fault) given Unused line told = absurd told
+  prints_of (Err fault) given Later line told = absurd told
 
   -- what is told of the reply to a request is what its plan comes to
   sent : (text : Vec ℕ Global) → request_of plan moment ≡ Ok text.items → (reply : Result Answer AnswerFault)
@@ -40,10 +42,12 @@ module _ {W : Type 0} (contents : W → Option (List ℕ)) (out out₂ : Watched
   sent text given (Ok answer) Fault line replied = inr (text.items, (moment, at, given), Ok answer, replied)
   sent text given (Ok answer) Usage line replied = absurd replied
   sent text given (Ok answer) Unused line replied = absurd replied
+  sent text given (Ok answer) Later line replied = absurd replied
   sent text given (Err fault) Success line replied = absurd replied
   sent text given (Err fault) Fault line replied = inr (text.items, (moment, at, given), Err fault, replied)
   sent text given (Err fault) Usage line replied = absurd replied
   sent text given (Err fault) Unused line replied = absurd replied
+  sent text given (Err fault) Later line replied = absurd replied
 
   -- what is told of a request that can't be made is what its plan comes to
   refused_of : (fault : SendFault) → GivesBy (λ (text : Vec ℕ Global). text.items) is_no_memory (Err fault) (request_of plan moment) → out₂ ≡ out

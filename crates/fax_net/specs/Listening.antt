@@ -9,7 +9,7 @@ use Rattle.fax_net.specs.declared.sockets.BindFault.TheVariants.{Refused, NoMemo
 use Rattle.fax_net.specs.declared.sockets.Sockets.{Sockets}
 use Rattle.fax_ending.specs.Ending.{no_database, no_memory, write_failed}
 use Rattle.fax_text.specs.declared.status.Status.{Status}
-use Rattle.fax_text.specs.declared.status.Status.TheVariants.{Success, Fault, Usage, Unused}
+use Rattle.fax_text.specs.declared.status.Status.TheVariants.{Success, Fault, Usage, Unused, Later}
 
 -- what it says once it listens
 abbrev pub listening : List ℕ
@@ -47,3 +47,4 @@ module _ {W : Type 0} (contents : W → Option (List ℕ)) (out out₂ : Watched
     Listens count turns shut Fault line = ((turns ≡ []) × SaidNothing line) ⊎ (HasListened count turns shut × (shut ≡ true) × (line ≡ no_database))
     Listens count turns shut Usage line = ⊥
     Listens count turns shut Unused line = ⊥
+    Listens count turns shut Later line = ⊥

@@ -13,7 +13,7 @@ use Rattle.fax_text.specs.declared.sendfax.SendFault.{SendFault}
 use Rattle.fax_text.specs.declared.sendfax.SendPlan.{SendPlan}
 use Rattle.fax_http.specs.Clock.{IsMoment}
 use Rattle.fax_text.specs.declared.status.Status.{Status}
-use Rattle.fax_text.specs.declared.status.Status.TheVariants.{Success, Fault, Usage, Unused}
+use Rattle.fax_text.specs.declared.status.Status.TheVariants.{Success, Fault, Usage, Unused, Later}
 
 -- a text at fault is a usage fault, and want of memory is another
 abbrev pub refused : SendFault → Status
@@ -47,10 +47,12 @@ module _ {W : Type 0} (contents : W → Option (List ℕ)) (out out₂ : Watched
   Tells (Ok text) Fault line = BrokeOff contents out out₂ text.items × (line ≡ write_failed)
   Tells (Ok text) Usage line = ⊥
   Tells (Ok text) Unused line = ⊥
+  Tells (Ok text) Later line = ⊥
   Tells (Err fault) Success line = ⊥
   Tells (Err fault) Fault line = (out₂ ≡ out) × (is_no_memory fault ≡ true) × (line ≡ no_memory)
   Tells (Err fault) Usage line = (out₂ ≡ out) × (is_no_memory fault ≡ false) × (line ≡ refusal fault)
   Tells (Err fault) Unused line = ⊥
+  Tells (Err fault) Later line = ⊥
 
   -- The request of the plan is printed. Or a text of it is at fault, and nothing is printed; or memory or the output gave out.
   abbrev pub Prints : SendPlan → Status → List ℕ → Type 0
@@ -59,6 +61,7 @@ module _ {W : Type 0} (contents : W → Option (List ℕ)) (out out₂ : Watched
       ((out₂ ≡ out) × (line ≡ no_memory)) ⊎ ((text : List ℕ) × Makes plan (Ok text) × BrokeOff contents out out₂ text × (line ≡ write_failed))
   Prints plan Usage line = (out₂ ≡ out) × (fault : SendFault) × Makes plan (Err fault) × (line ≡ refusal fault)
   Prints plan Unused line = ⊥
+  Prints plan Later line = ⊥
 
   -- The body of a reply is printed: with status 201 it succeeds, and else it is a fault. Without a reply nothing is printed.
   abbrev pub Replies : Result Answer AnswerFault → Status → List ℕ → Type 0
@@ -68,10 +71,12 @@ module _ {W : Type 0} (contents : W → Option (List ℕ)) (out out₂ : Watched
       ⊎ (BrokeOff contents out out₂ answer.body.items × (line ≡ write_failed))
   Replies (Ok answer) Usage line = ⊥
   Replies (Ok answer) Unused line = ⊥
+  Replies (Ok answer) Later line = ⊥
   Replies (Err fault) Success line = ⊥
   Replies (Err fault) Fault line = (out₂ ≡ out) × (line ≡ answer_line fault)
   Replies (Err fault) Usage line = ⊥
   Replies (Err fault) Unused line = ⊥
+  Replies (Err fault) Later line = ⊥
 
   -- a request that was made is sent, and what is replied is printed; or a text is at fault
   abbrev pub Handed : Result (Vec ℕ Global) SendFault → Status → List ℕ → Type 0
@@ -85,6 +90,7 @@ module _ {W : Type 0} (contents : W → Option (List ℕ)) (out out₂ : Watched
       ((out₂ ≡ out) × (line ≡ no_memory)) ⊎ ((text : List ℕ) × Makes plan (Ok text) × (reply : Result Answer AnswerFault) × Replies reply Fault line)
   Sends plan Usage line = (out₂ ≡ out) × (fault : SendFault) × Makes plan (Err fault) × (line ≡ refusal fault)
   Sends plan Unused line = ⊥
+  Sends plan Later line = ⊥
 
   -- the request is printed, or sent to the address that the plan has
   abbrev pub Hands : SendPlan → Status → List ℕ → Type 0

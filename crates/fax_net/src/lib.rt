@@ -3,7 +3,9 @@
 //! A peer has only so much time. No other crate reads or writes a socket.
 #![tactic(auto)]
 
+mod breaks;
 mod conversing;
+mod exchanging;
 pub mod laws;
 mod link;
 mod listening;
@@ -16,6 +18,8 @@ pub mod sendfax;
 mod sockets;
 mod timed;
 
+pub use breaks::Breaks;
+pub use exchanging::exchange;
 pub use listening::listen;
 pub use peers::{Coming, Moved, Peers};
 pub use sockets::Sockets;

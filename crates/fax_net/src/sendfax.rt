@@ -4,17 +4,11 @@ ghost use Rattle.fax_net.specs.Sendfax.{Handed, Hands, Replies, Tells, refusal, 
 ghost use Rattle.fax_ending.specs.Ending.{spoken};
 ghost use Rattle.fax_ending.specs.FaultLine.{spelled};
 
-use crate::patience::Patience;
-use crate::timed::Timed;
+use crate::exchanging::exchange;
 use fax_ending::{Ending, FaultLine, Place};
-use fax_http::{Answer, AnswerFault, Watched, moment_of, read_answer};
+use fax_http::{Answer, AnswerFault, Watched, moment_of};
 use fax_text::{SendFault, SendPlan, request};
-use std::io::{self, ErrorKind, Write};
-use std::net::{TcpStream, ToSocketAddrs};
-use std::time::Duration;
-
-/// How many seconds it may take to connect, and each read and write. Request and reply may take six times as many.
-const WAIT_LIMIT: u64 = 10;
+use std::io::Write;
 
 /// The status of a reply to a request that made a job (RFC 9110, section 15.3.2).
 const CREATED: u16 = 201;
@@ -81,7 +75,7 @@ fn hand_in<W: Write + Drop>(
     ensures { Handed W.contents out.old out.new made result.status (spoken result) }
 {
     match made {
-        Ok(text) => print_reply(send(rt, address, text.as_slice()), out),
+        Ok(text) => print_reply(exchange(rt, address, text.as_slice()), out),
         Err(fault) => refuse(fault),
     }
 }
@@ -111,26 +105,4 @@ fn refused_line(status: u16) -> FaultLine<'static>
     ensures { spelled result ≡ refused_line status }
 {
     FaultLine::of("faxqd: refused ", Place::Number(u64::from(status)))
-}
-
-/// Sends a request to an address, and reads the reply. A reply may come before the request is written to its end.
-fn send(rt: &HostRuntime, address: &str, text: &[u8]) -> Result<Answer, AnswerFault> {
-    let Ok(stream) = connect(rt, address) else {
-        return Err(AnswerFault::NoReply);
-    };
-    let patience = Patience::limits(WAIT_LIMIT);
-    let mut writer = Timed::new(rt, &stream, patience);
-    let reader = Timed::new(rt, &stream, patience);
-    let _ = writer.write_all(text);
-    read_answer(rt.alloc(), &mut Watched::new(reader))
-}
-
-/// A connection to the first of a name's addresses that takes one in time.
-fn connect(rt: &HostRuntime, address: &str) -> io::Result<TcpStream> {
-    for one in address.to_socket_addrs(rt)? {
-        if let Ok(stream) = TcpStream::connect_timeout(rt, &one, Duration::from_secs(WAIT_LIMIT)) {
-            return Ok(stream);
-        }
-    }
-    Err(ErrorKind::NotConnected.into())
 }

@@ -19,7 +19,7 @@ use Rattle.fax_schema.specs.declared.way.Step.{Step}
 use Rattle.fax_schema.specs.declared.way.Step.TheVariants.{DropIndexes, DropJobIndexes, DropCalls, CreateFirst, CreateSecond, CreateThird, CreateIndexes}
 use Rattle.fax_schema.specs.Schema.{no_tables, with_jobs, with_grants, with_holds, with_down, with_replies, first_bare, first_with_killtime, first_core, first_older_core, first_tables, first_older, first_bare_calls, first_vacuumed, first_vacuumed_with_killtime, first_older_vacuumed, first_keys, first_list, first_past, second_bare, second_with_killtime, second_core, second_tables, second_bare_calls, second_vacuumed, second_vacuumed_with_killtime, both_list, both_keys, both_past, bare_tables, with_killtime_index, with_job_indexes, core_tables, our_tables, bare_with_calls, vacuumed_tables, vacuumed_with_two, vacuumed_with_killtime, jobs, grants, holds, down, replies, meta, floors, times, calls_at, calls_place, calls_tree, core_keys, core_past, killtime_index_at, choice_index_at, older_choice_index_at, grants_index_at}
 use Rattle.fax_schema.specs.Way.{changes, texts_of}
-use Rattle.fax_schema.proofs.RowsLemmas.{are_in, is_in}
+use Rattle.fax_layout.proofs.RowsLemmas.{are_in, is_in}
 use Rattle.fax_schema.proofs.StatementForms.{Makes}
 use Rattle.fax_schema.proofs.StatementTexts.{makes_jobs, created_jobs, makes_replies, created_replies, makes_meta, created_meta}
 use Rattle.fax_schema.proofs.GrantTexts.{makes_grants, created_grants, makes_holds, created_holds}

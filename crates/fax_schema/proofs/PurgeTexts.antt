@@ -11,7 +11,7 @@ use Rattle.sqlite_sql.specs.declared.ops.CompareOp.TheVariants.{Gt, Lt}
 use Rattle.sqlite_tied.specs.Compute.{everything}
 use Rattle.sqlite_value.specs.Keys.{ascending}
 use Rattle.fax_schema.specs.declared.statements.TheConstants.{DELETE_GRANTS, DELETE_JOB, DELETE_TIMES, SELECT_LEAVING}
-use Rattle.fax_schema.proofs.SelectLemmas.{rows_by}
+use Rattle.fax_layout.proofs.SelectLemmas.{rows_by}
 use Rattle.fax_schema.proofs.StatementForms.{equals, Commands, SelectsAll}
 use Rattle.fax_schema.proofs.StatementTexts.{job_tests}
 use Rattle.fax_schema.proofs.UpdateLemmas.{program_of, gone_project}

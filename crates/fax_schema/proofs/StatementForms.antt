@@ -14,7 +14,7 @@ use Rattle.sqlite_schema.specs.declared.schema.Schema.{Schema}
 use Rattle.sqlite_schema.specs.declared.schema.Table.{Table}
 use Rattle.sqlite_value.specs.declared.keys.Key.{Key}
 use Rattle.fax_schema.specs.Schema.{our_tables}
-use Rattle.fax_schema.proofs.SelectLemmas.{rows_by, rows_where}
+use Rattle.fax_layout.proofs.SelectLemmas.{rows_by, rows_where}
 
 abbrev pub equals : Term → Term → Term
 equals = op2 (Compare Eq Binary)

@@ -21,7 +21,7 @@ use Rattle.fax_schema.specs.declared.statements.TheConstants.{SELECT_META, UPDAT
 use Rattle.fax_schema.specs.declared.statements.TheConstants.{SELECT_REPLY, INSERT_REPLY}
 use Rattle.fax_schema.specs.declared.statements.TheConstants.{SELECT_FIRST, SELECT_BEHIND_NUMBER, SELECT_BEHIND_TIME, SELECT_BEHIND_PRIORITY}
 use Rattle.fax_schema.specs.declared.statements.TheConstants.{SELECT_JOB, SELECT_BRIEF, INSERT_JOB, UPDATE_JOB, SELECT_EXPIRED, EXPIRE_JOBS, SELECT_WAITING, SELECT_BRIEFS, SELECT_BRIEFS_FROM}
-use Rattle.fax_schema.proofs.SelectLemmas.{rows_by, rows_where}
+use Rattle.fax_layout.proofs.SelectLemmas.{rows_by, rows_where}
 use Rattle.fax_schema.proofs.UpdateLemmas.{program_of}
 use Rattle.fax_schema.proofs.StatementForms.{equals, Makes, Selects, SelectsAll, SelectsBy, Commands}
 use Rattle.fax_schema.specs.Schema.{no_tables, with_jobs, with_down, with_replies, first_bare, jobs, replies, meta, holds_tree, jobs_tree, meta_tree, replies_tree}

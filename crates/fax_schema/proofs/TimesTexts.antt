@@ -1,17 +1,15 @@
 -- What the texts on the times of jobs mean, and those by which adopting makes them.
 use Rattle.std.proofs.Common.{ℕ, List, [], ◌∷◌, codes, refl}
-use Rattle.sqlite.specs.Collation.TheVariants.{Binary}
 use Rattle.sqlite.specs.declared.types.Value.TheVariants.{Null}
 use Rattle.sqlite.specs.Command.TheVariants.{Insert, Update, Delete}
 use Rattle.sqlite.specs.Listing.{understood}
 use Rattle.sqlite.specs.Query.{Query, end, inner, left}
 use Rattle.sqlite.specs.Source.TheVariants.{Values}
-use Rattle.sqlite_sql.specs.Term.{Term, lit, col, op2}
+use Rattle.sqlite_sql.specs.Term.{Term, lit, col}
 use Rattle.sqlite_tied.specs.Compute.{everything}
-use Rattle.sqlite_sql.specs.declared.ops.BinaryOp.TheVariants.{Is}
 use Rattle.fax_schema.specs.declared.statements.TheConstants.{DELETE_GRANT, END_TIMES, INSERT_TIMES, SELECT_PHASES, SELECT_STRAYS, SELECT_TIMES}
-use Rattle.fax_schema.proofs.SelectLemmas.{rows_by}
-use Rattle.fax_schema.proofs.StatementForms.{equals, Selects, SelectsAll, Commands}
+use Rattle.fax_layout.proofs.SelectLemmas.{rows_by}
+use Rattle.fax_schema.proofs.StatementForms.{Selects, SelectsAll, Commands}
 use Rattle.fax_schema.proofs.StatementTexts.{job_tests, lost_on, lost_tests}
 use Rattle.fax_schema.proofs.UpdateLemmas.{program_of, gone_project}
 use Rattle.fax_schema.specs.Schema.{grants_tree, jobs_tree, times_tree}

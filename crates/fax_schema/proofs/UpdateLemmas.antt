@@ -12,11 +12,12 @@ use Rattle.sqlite_schema.specs.declared.schema.Column.{Column}
 use Rattle.sqlite_sql.specs.Term.{Term, col}
 use Rattle.sqlite_value.specs.declared.keys.Order.{Order}
 use Rattle.fax_schema.specs.Schema.{table_of, our_tables}
-use Rattle.fax_schema.specs.ByRowid.{IsByRowid}
-use Rattle.fax_schema.proofs.EditLemmas as edit
-use Rattle.fax_schema.proofs.EditLemmas.{fewer_by}
-use Rattle.fax_schema.proofs.SelectLemmas.{rows_where, passes, show, answers}
-use Rattle.fax_schema.proofs.WriteLemmas.{KeepsOthers, unreferred, updates, deletes}
+use Rattle.fax_layout.specs.ByRowid.{IsByRowid}
+use Rattle.fax_layout.proofs.EditLemmas as edit
+use Rattle.fax_layout.proofs.EditLemmas.{fewer_by}
+use Rattle.fax_layout.proofs.SelectLemmas.{rows_where, passes, show, answers}
+use Rattle.fax_layout.proofs.WriteLemmas.{KeepsOthers, updates, deletes}
+use Rattle.fax_schema.proofs.OursLemmas.{unreferred}
 
 -- the query of the rows that an UPDATE or a DELETE is of
 abbrev pub program_of : ℕ → List Term → List Term → Program

@@ -1,4 +1,2 @@
 pub mod Schema
-pub mod Shape
-pub mod ByRowid
 pub mod Way

@@ -1,50 +1,19 @@
 -- The nine tables and their indexes as the database knows them, those of the second version, which had no times, and those of the first, which had no floors either.
-use Rattle.std.specs.Prelude.{ℕ, ◌+◌, Bool, true, false, List, [], ◌∷◌, ◌++◌, codes, length, Option, Some, None, pos}
+use Rattle.std.specs.Prelude.{ℕ, ◌+◌, Bool, false, List, [], ◌∷◌, ◌++◌, codes, length, Some, None, pos}
 use Rattle.std.specs.List.{list_any}
 use Rattle.std.specs.Str.{bytes_eq}
 use Rattle.sqlite.specs.Collation.TheVariants.{Binary}
-use Rattle.sqlite.specs.declared.types.Value.TheVariants.{Null, Int}
+use Rattle.sqlite.specs.declared.types.Value.TheVariants.{Int}
 use Rattle.sqlite_schema.specs.declared.schema.Column.{Column}
-use Rattle.sqlite_schema.specs.declared.schema.Kind.{Kind}
-use Rattle.sqlite_schema.specs.declared.schema.Kind.TheVariants.{Integer, Text, Blob}
 use Rattle.sqlite_schema.specs.declared.schema.Index.{Index}
 use Rattle.sqlite_schema.specs.declared.schema.Table.{Table}
 use Rattle.sqlite_schema.specs.declared.schema.Schema.{Schema}
-use Rattle.sqlite_sql.specs.Term.{Term, lit, col, op2}
+use Rattle.sqlite_sql.specs.Term.{lit, col, op2}
 use Rattle.sqlite_sql.specs.declared.ops.BinaryOp.TheVariants.{Compare}
 use Rattle.sqlite_sql.specs.declared.ops.CompareOp.TheVariants.{Eq}
 use Rattle.sqlite_rules.specs.Lists.{Has}
-use Rattle.sqlite_value.specs.declared.keys.Order.{Order}
 use Rattle.sqlite_value.specs.Keys.{plain}
-
-abbrev pub column_of : List ℕ → Kind → Column
-column_of name kind = record { name = name; kind = kind; is_strict = true; not_null = true; default = Null; collation = Binary }
-
-abbrev pub integer : List ℕ → Column
-integer name = column_of name Integer
-
-abbrev pub text : List ℕ → Column
-text name = column_of name Text
-
-abbrev pub blob : List ℕ → Column
-blob name = column_of name Blob
-
--- a strict table with no rule but NOT NULL and these keys
-abbrev pub table_of : List ℕ → ℕ → List Column → Option ℕ → List ℕ → List (List ℕ) → List Order → List Term → Table
-table_of name tree columns key primary uniques orders checks = record {
-  name = name;
-  tree = tree;
-  columns = columns;
-  key = key;
-  primary = primary;
-  uniques = uniques;
-  orders = orders;
-  checks = checks;
-  references = [];
-  computed = [];
-  stamps = record { places = []; terms = []; formats = [] };
-  is_counted = false;
-}
+pub use Rattle.fax_layout.specs.Tables.{column_of, integer, text, blob, table_of, key_index, laid, no_tables}
 
 -- the tree of each table's rows. Those between are of their indexes.
 abbrev pub jobs_tree : ℕ
@@ -118,10 +87,6 @@ times = table_of (codes "times") times_tree (integer (codes "job") ∷ integer (
 abbrev pub calls_at : ℕ → Table
 calls_at tree = table_of (codes "calls") tree (text (codes "dial") ∷ integer (codes "open") ∷ []) None (1 ∷ []) ((1 ∷ []) ∷ []) (plain ∷ []) []
 
--- the index that a key of a table with hidden rowids has
-abbrev pub key_index : List ℕ → ℕ → ℕ → List ℕ → Index
-key_index name tree table places = record { name = name; tree = tree; table = table; columns = places; order = plain; is_unique = true }
-
 abbrev pub holds_indexes : List Index
 holds_indexes =
     key_index (codes "sqlite_autoindex_holds_1") 3 holds_tree (1 ∷ []) ∷ key_index (codes "sqlite_autoindex_holds_2") 4 holds_tree (2 ∷ []) ∷ key_index (codes "sqlite_autoindex_holds_3") 5 holds_tree (3 ∷ []) ∷ []
@@ -173,14 +138,6 @@ older_indexes_at tree = killtime_index_at tree ∷ older_choice_index_at (tree +
 -- The first tree behind these: each of them has one.
 abbrev pub past : List Table → List Index → ℕ
 past tables indexes = length tables + length indexes
-
--- a database with these tables and indexes, and no view
-abbrev pub laid : List Table → List Index → Schema
-laid tables indexes = record { tables = tables; indexes = indexes; views = [] }
-
--- a database with no tables
-abbrev pub no_tables : Schema
-no_tables = laid [] []
 
 -- the schema after each of the first five was made
 abbrev pub with_jobs : Schema

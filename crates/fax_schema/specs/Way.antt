@@ -8,7 +8,7 @@ use Rattle.fax_schema.specs.declared.way.Step.TheVariants.{DropIndexes, DropJobI
 use Rattle.fax_schema.specs.declared.way.TheConstants.{UPGRADES}
 use Rattle.fax_schema.specs.declared.way.Known.{Known}
 use Rattle.fax_schema.specs.declared.way.Way.{Way}
-use Rattle.fax_schema.specs.Shape.{laid_out}
+use Rattle.fax_layout.specs.Shape.{laid_out}
 use Rattle.fax_schema.specs.Schema.{no_tables, our_tables, core_tables, bare_tables, bare_with_calls, vacuumed_tables, second_tables, second_core, second_bare, second_bare_calls, second_vacuumed, first_tables, first_older, first_core, first_older_core, first_bare, first_bare_calls, first_vacuumed, first_older_vacuumed}
 
 -- the texts of each step

@@ -4,10 +4,10 @@
 //! What the rows mean is above, in `fax_tables`, and what runs the statements in `fax_store`.
 #![tactic(auto)]
 
-mod recognize;
 mod shape;
 pub mod statements;
+mod versions;
 mod way;
 
-pub use recognize::{has_floors, has_no_tables, has_times};
+pub use versions::{has_floors, has_times};
 pub use way::{Step, UPGRADES, Way, way_of};

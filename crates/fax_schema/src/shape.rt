@@ -1,40 +1,13 @@
 //! The tables and indexes of a queue, and the layouts in which its database has them.
 
+use fax_layout::{IndexShape, Layout, Part, Shape};
 use sqlite_schema::schema::Kind;
-use sqlite_value::keys::Order;
-
-/// What a table is. Its one check may be that it has one row, whose first column is 1.
-pub(crate) struct Shape {
-    pub(crate) name: &'static str,
-    pub(crate) columns: &'static [(&'static str, Kind)],
-    pub(crate) key: Option<usize>,
-    pub(crate) primary: &'static [usize],
-    pub(crate) uniques: &'static [&'static [usize]],
-    pub(crate) has_one_row: bool,
-}
-
-/// What an index is: its name and its places, each of which ascends by its bytes.
-pub(crate) struct IndexShape {
-    pub(crate) name: &'static str,
-    pub(crate) places: &'static [usize],
-}
-
-/// A table or an index, which takes one tree of its database.
-pub(crate) enum Part {
-    Table(Shape),
-    /// The index that a key of the table before it has.
-    Key(IndexShape),
-    /// An index by which rows of the table in that tree are found. It holds no rule.
-    Index(IndexShape, u64),
-}
 
 /// The tree of the jobs, which are made first.
 const JOBS_TREE: u64 = 0;
 
 /// The tree of the grants, which are made next.
 const GRANTS_TREE: u64 = 1;
-
-pub(crate) const PLAIN: Order = Order { digits: 0 };
 
 const JOBS: Part = Part::Table(Shape {
     name: "jobs",
@@ -272,9 +245,6 @@ const OLDER_INDEXES: &[Part] = &[KILLTIME, OLDER_CHOICE];
 
 /// The calls, with the index of their key.
 const COUNTS: &[Part] = &[CALLS, CALLS_DIAL];
-
-/// What a database has, in the order in which it was made: each part in the tree of its place.
-pub(crate) type Layout = &'static [&'static [Part]];
 
 // ---- the first version
 

@@ -8,17 +8,17 @@ ghost use Rattle.sqlite_rules.specs.Lists.{Has};
 ghost use Rattle.fax_schema.specs.Schema.{AreOurs, our_layouts};
 ghost use Rattle.fax_schema.specs.Way.{HasWay, IsWay, layout_of, texts_of};
 
-use crate::recognize::has_layout;
 use crate::shape::{
     BARE, BARE_CALLS, CORE, FIRST_BARE, FIRST_BARE_CALLS, FIRST_CORE, FIRST_OLDER,
-    FIRST_OLDER_CORE, FIRST_OLDER_VACUUMED, FIRST_TABLES, FIRST_VACUUMED, Layout, OURS,
-    SECOND_BARE, SECOND_BARE_CALLS, SECOND_CORE, SECOND_TABLES, SECOND_VACUUMED, VACUUMED,
+    FIRST_OLDER_CORE, FIRST_OLDER_VACUUMED, FIRST_TABLES, FIRST_VACUUMED, OURS, SECOND_BARE,
+    SECOND_BARE_CALLS, SECOND_CORE, SECOND_TABLES, SECOND_VACUUMED, VACUUMED,
 };
 use crate::statements::{
     CREATE_CHOICE_INDEX, CREATE_DOWN, CREATE_FLOORS, CREATE_GRANTS, CREATE_GRANTS_INDEX,
     CREATE_HOLDS, CREATE_JOBS, CREATE_KILLTIME_INDEX, CREATE_META, CREATE_REPLIES, CREATE_TIMES,
     DROP_CALLS, DROP_CHOICE_INDEX, DROP_GRANTS_INDEX, DROP_KILLTIME_INDEX,
 };
+use fax_layout::{Layout, has_layout};
 use sqlite_schema::schema::Schema;
 use std::alloc::{AllocError, Global};
 

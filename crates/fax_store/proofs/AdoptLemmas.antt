@@ -21,17 +21,18 @@ use Rattle.fax_store.specs.declared.store.TheConstants.{BEGIN, COMMIT}
 use Rattle.fax_tables.specs.declared.fault.StoreFault.{StoreFault}
 use Rattle.fax_tables.specs.declared.fault.StoreFault.TheVariants.{Strange, Unavailable}
 use Rattle.fax_tables.specs.Row.{number, meta_row, raised}
-use Rattle.fax_schema.specs.ByRowid.{IsByRowid}
+use Rattle.fax_layout.specs.ByRowid.{IsByRowid}
 use Rattle.fax_schema.specs.Schema as schema
 use Rattle.fax_schema.specs.Schema.{AreOurs, added_list, alike_list, first_list, has_floors, has_times, no_tables, our_tables, calls_tree, core_tables, down_tree, floors_tree, grants_tree, holds_tree, jobs_tree, meta_tree, replies_tree, times_tree}
 use Rattle.fax_schema.specs.declared.way.Way.{Way}
 use Rattle.fax_tables.specs.Tables.{GoesOn, HasEmptyTables, HasNewCalls, HasVersion, IsAtRest, Renews, RowsMean, TablesMean, added_in, grants_as, grants_in, has_added, is_job, meta_as, meta_in, time_made, times_as, times_in, version_of, versions}
 use Rattle.fax_tables.proofs.CreateLemmas.{added_none, added_there, commit_kept, goes_on, none_at_first, refused_keeps}
-use Rattle.fax_tables.proofs.StopLemmas.{nothing_then}
-use Rattle.fax_tables.proofs.TablesLemmas.{same_database}
-use Rattle.fax_tables.specs.Stop.{HoldsBack}
-use Rattle.fax_schema.proofs.RowsLemmas.{not_ours, all_front, all_given, all_mapped, at_tree, kept_back, kept_rows, all_behind, all_both, others_kept}
-use Rattle.fax_schema.proofs.SelectLemmas.{answers}
+use Rattle.fax_layout.proofs.StopLemmas.{nothing_then}
+use Rattle.fax_layout.proofs.DatabaseLemmas.{same_database}
+use Rattle.fax_layout.specs.Stop.{HoldsBack}
+use Rattle.fax_layout.proofs.RowsLemmas.{all_front, all_given, all_mapped, at_tree, kept_back, kept_rows, all_behind, all_both, others_kept}
+use Rattle.fax_schema.proofs.OursLemmas.{not_ours}
+use Rattle.fax_layout.proofs.SelectLemmas.{answers}
 use Rattle.sqlite_schema.specs.declared.schema.Schema.{Schema}
 use Rattle.sqlite_schema.specs.declared.schema.Table.{Table}
 use Rattle.fax_store.specs.Adopt.{Adopts, AreAdopted, AreOnTheWay, AreTaken, Founds, HasBecome, HasNone, HasNoStrays, HasThird, HasTimes, HoldsCanBeCalled, IsAdoptable, IsFilled, IsIn, IsOurs, IsRaisable, IsTakeable, IsTaken, IsUntimed, MeansAs, QueuesAreTakeable, Settles, Takes, Turns, CoreMeans, HoldJobs, IsSettled, IsWhole}
@@ -53,11 +54,12 @@ use Rattle.sqlite.specs.View.{is_int}
 use Rattle.sqlite_schema.specs.Rules.{Keeps, are_typed, is_of, passes as obeys}
 use Rattle.sqlite_schema.specs.declared.schema.Constraint.TheVariants.{Datatype}
 use Rattle.sqlite_schema.specs.declared.schema.Kind.TheVariants.{Integer}
-use Rattle.fax_schema.proofs.CompareLemmas.{cast_int, cast_null, same_row}
+use Rattle.fax_layout.proofs.CompareLemmas.{cast_int, cast_null, same_row}
 use Rattle.fax_schema.proofs.UpdateLemmas.{program_of, updated}
 use Rattle.fax_store.proofs.TimedLemmas.{typed, typed_same}
 use Rattle.fax_store.proofs.TurnLemmas.{Leaves, leaves_by, only_at, only_by}
-use Rattle.fax_schema.proofs.WriteLemmas.{KeepsOthers, unreferred, updates}
+use Rattle.fax_layout.proofs.WriteLemmas.{KeepsOthers, updates}
+use Rattle.fax_schema.proofs.OursLemmas.{unreferred}
 use Rattle.sqlite.proofs.InsideLemmas.{unchanged_keeps}
 
 -- what goes back to the commit that a call kept, goes back to that before it

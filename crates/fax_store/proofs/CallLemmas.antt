@@ -28,19 +28,20 @@ use Rattle.fax_store.specs.Store.{FindsRow, HasRun, StandsOrNone}
 use Rattle.fax_tables.specs.Row.{HasNumber, number, call_columns}
 use Rattle.fax_schema.specs.Schema as schema
 use Rattle.fax_schema.specs.Schema.{core_list, core_tables, our_tables, calls_place, calls_tree}
-use Rattle.fax_schema.proofs.RowsLemmas.{all_front, all_given, others_kept}
+use Rattle.fax_layout.proofs.RowsLemmas.{all_front, all_given, others_kept}
 use Rattle.fax_tables.specs.Tables.{AreCalls, AreCounted}
-use Rattle.fax_schema.specs.ByRowid.{IsByRowid}
-use Rattle.fax_schema.proofs.AppendLemmas.{appended}
-use Rattle.fax_schema.proofs.CompareLemmas.{are_equal, cast_int, cast_null, equal_texts, same_row}
+use Rattle.fax_layout.specs.ByRowid.{IsByRowid}
+use Rattle.fax_layout.proofs.AppendLemmas.{appended}
+use Rattle.fax_layout.proofs.CompareLemmas.{are_equal, cast_int, cast_null, equal_texts, same_row}
 use Rattle.fax_tables.proofs.CreateLemmas.{goes_on, inside_shown, kept_rows}
-use Rattle.fax_schema.proofs.EditLemmas.{has_mapped}
-use Rattle.fax_schema.proofs.SelectLemmas.{passes, show}
+use Rattle.fax_layout.proofs.EditLemmas.{has_mapped}
+use Rattle.fax_layout.proofs.SelectLemmas.{passes, show}
 use Rattle.fax_tables.proofs.TablesLemmas.{by_rowid_put, counted_as}
 use Rattle.sqlite.specs.Program.{overlay}
 use Rattle.fax_schema.proofs.StatementForms.{Selects}
 use Rattle.fax_schema.proofs.UpdateLemmas.{gone_project, deleted}
-use Rattle.fax_schema.proofs.WriteLemmas.{KeepsOthers, unreferred, inserts}
+use Rattle.fax_layout.proofs.WriteLemmas.{KeepsOthers, inserts}
+use Rattle.fax_schema.proofs.OursLemmas.{unreferred}
 use Rattle.fax_schema.proofs.GrantTexts.{call_tests, call_project, call_terms, select_open, delete_calls, insert_calls}
 
 -- ---- counts

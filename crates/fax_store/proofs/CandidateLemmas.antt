@@ -57,8 +57,8 @@ use Rattle.fax_tables.specs.Job.{IsLawfulJob, prospect, prospect_shown}
 use Rattle.fax_tables.specs.Row.{number}
 use Rattle.fax_schema.specs.Schema.{our_tables, jobs_tree}
 use Rattle.fax_tables.specs.Tables.{TablesMean}
-use Rattle.fax_schema.proofs.ColumnLemmas.{all_kept}
-use Rattle.fax_schema.proofs.SelectLemmas.{each_passing}
+use Rattle.fax_layout.proofs.ColumnLemmas.{all_kept}
+use Rattle.fax_layout.proofs.SelectLemmas.{each_passing}
 use Rattle.fax_tables.proofs.TablesLemmas.{row_of}
 use Rattle.fax_store.proofs.JobsLemmas.{ascend, Below}
 use Rattle.fax_schema.proofs.StatementTexts.{SelectsPage, page_query, prospect_project}

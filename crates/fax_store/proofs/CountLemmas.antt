@@ -25,7 +25,7 @@ use Rattle.fax_tables.specs.Place.{placed}
 use Rattle.std.proofs.lemmas.List.Folds.{map_fixed}
 use Rattle.fax_tables.specs.Row.{number, grant_row, hold_columns}
 use Rattle.fax_tables.specs.Tables.{HasJob, HaveJobs, IsLawfulGrant, TablesMean}
-use Rattle.fax_schema.proofs.EditLemmas.{has_mapped}
+use Rattle.fax_layout.proofs.EditLemmas.{has_mapped}
 use Rattle.fax_tables.proofs.KeyLemmas.{apart}
 use Rattle.fax_store.specs.Job.{with_placed}
 

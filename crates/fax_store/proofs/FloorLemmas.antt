@@ -18,17 +18,18 @@ use Rattle.fax_core.specs.Ledger.{Ledger, floors_with, is_through, without_repli
 use Rattle.fax_core.specs.Queue.{Queue, Entry, open_grants}
 use Rattle.fax_value.specs.Name.{IsName}
 use Rattle.fax_schema.specs.declared.statements.TheConstants.{DELETE_FLOOR, DELETE_REPLIES, INSERT_FLOOR, SELECT_FLOOR}
-use Rattle.fax_schema.specs.ByRowid.{IsByRowid}
+use Rattle.fax_layout.specs.ByRowid.{IsByRowid}
 use Rattle.fax_schema.specs.Schema as schema
 use Rattle.fax_schema.specs.Schema.{our_tables, floors_tree, replies_tree}
-use Rattle.fax_schema.proofs.AppendLemmas.{appended}
+use Rattle.fax_layout.proofs.AppendLemmas.{appended}
 use Rattle.fax_schema.proofs.ClientTexts.{delete_floor, delete_replies, given_up_tests, insert_floor, select_floor}
-use Rattle.fax_schema.proofs.ColumnLemmas.{all_kept, kept_columns}
-use Rattle.fax_schema.proofs.CompareLemmas.{at_most, cast_int, cast_null, equal_texts, same_row}
+use Rattle.fax_layout.proofs.ColumnLemmas.{all_kept, kept_columns}
+use Rattle.fax_layout.proofs.CompareLemmas.{at_most, cast_int, cast_null, equal_texts, same_row}
 use Rattle.fax_schema.proofs.GrantTexts.{call_terms, call_tests}
-use Rattle.fax_schema.proofs.SelectLemmas.{passes}
+use Rattle.fax_layout.proofs.SelectLemmas.{passes}
 use Rattle.fax_schema.proofs.UpdateLemmas.{gone_project, deleted}
-use Rattle.fax_schema.proofs.WriteLemmas.{KeepsOthers, unreferred, inserts}
+use Rattle.fax_layout.proofs.WriteLemmas.{KeepsOthers, inserts}
+use Rattle.fax_schema.proofs.OursLemmas.{unreferred}
 use Rattle.fax_tables.specs.Row.{HasNumber, number, entry_columns, floor_columns}
 use Rattle.fax_tables.specs.Tables.{AreCounted, AreLawfulFloors, TablesMean}
 use Rattle.fax_tables.proofs.TablesLemmas.{AreColumns, AreFloors, by_rowid_put, calls_of, floors_changed, means_of, parts_of, replies_changed}

@@ -19,9 +19,9 @@ use Rattle.sqlite_value.proofs.OrderLemmas.{value_cmp-apart}
 use Rattle.sqlite_sql.specs.Term.{Term}
 use Rattle.sqlite_trees.specs.Tree.{Trees}
 use Rattle.fax_schema.specs.Schema.{our_tables}
-use Rattle.fax_schema.proofs.CompareLemmas.{are_equal, compared, equal_texts, same_number}
-use Rattle.fax_schema.proofs.EditLemmas.{none_shown, shown_one}
-use Rattle.fax_schema.proofs.SelectLemmas.{passes, show, answers}
+use Rattle.fax_layout.proofs.CompareLemmas.{are_equal, compared, equal_texts, same_number}
+use Rattle.fax_layout.proofs.EditLemmas.{none_shown, shown_one}
+use Rattle.fax_layout.proofs.SelectLemmas.{passes, show, answers}
 use Rattle.fax_schema.proofs.StatementForms.{Selects}
 use Rattle.fax_store.specs.Store.{FindsRow, HasRow}
 use Rattle.fax_tables.specs.Row.{HasValues, number}

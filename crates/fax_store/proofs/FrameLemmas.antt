@@ -19,7 +19,7 @@ use Rattle.fax_store.specs.Store.{CommitsNothing, FindsRow, HasRun, HasTables, M
 use Rattle.fax_store.specs.declared.store.Store.{Store}
 use Rattle.fax_store.specs.declared.work.Work.{Work}
 use Rattle.fax_schema.specs.Schema.{our_tables}
-use Rattle.fax_schema.proofs.WriteLemmas.{KeepsOthers}
+use Rattle.fax_layout.proofs.WriteLemmas.{KeepsOthers}
 use Rattle.fax_tables.specs.Fault.{fault_of}
 use Rattle.fax_tables.specs.Tables.{TablesMean}
 use Rattle.fax_tables.specs.declared.fault.StoreFault.{StoreFault}

@@ -17,11 +17,11 @@ use Rattle.fax_store.specs.Calls.{shown}
 use Rattle.fax_store.specs.Store.{FindsRow, HasRun}
 use Rattle.fax_store.specs.declared.store.Store.{Store}
 use Rattle.fax_tables.specs.Tables.{IsLawfulGrant, TablesMean, HaveJobs}
-use Rattle.fax_schema.proofs.CompareLemmas.{number_same, are_equal, equal_texts, is_number, same_row, cast_int, cast_null}
+use Rattle.fax_layout.proofs.CompareLemmas.{number_same, are_equal, equal_texts, is_number, same_row, cast_int, cast_null}
 use Rattle.fax_schema.proofs.GrantTexts.{grant_names, grant_tests, grant_project, select_grant, grant_terms, report_project, shut_project, held_tests, hold_terms, insert_grant, insert_hold, update_report, shut_grant, delete_hold, hold_tests, hold_project, select_hold}
 use Rattle.fax_store.proofs.FoundLemmas.{agree_at, none_keyed, one_numbered, Keys, key_of, one_passes, none_passes, row_passes, text_same, with_id}
 use Rattle.fax_tables.proofs.KeyLemmas.{found_holds, numbered_found, only_numbered, asked_is, not_asked, row_placed, all_placed, placed_permuted, free_of}
-use Rattle.fax_schema.proofs.SelectLemmas.{passes, show, answers}
+use Rattle.fax_layout.proofs.SelectLemmas.{passes, show, answers}
 use Rattle.std.proofs.lemmas.Option.{same_Some}
 use Rattle.std.proofs.Math.Bool.{and-true}
 use Rattle.std.proofs.lemmas.Bool.{cases_Bool, eqb-true, eq-eqb, false_from_ne_true, cond_both, and_parts, not-true}
@@ -39,11 +39,11 @@ use Rattle.fax_core.specs.Job.{Job}
 use Rattle.fax_core.specs.State.{is_of_number}
 use Rattle.fax_tables.specs.Place.{placed}
 use Rattle.fax_schema.specs.Schema as schema
-use Rattle.fax_schema.specs.ByRowid.{IsByRowid}
-use Rattle.fax_schema.proofs.AppendLemmas.{appended}
+use Rattle.fax_layout.specs.ByRowid.{IsByRowid}
+use Rattle.fax_layout.proofs.AppendLemmas.{appended}
 use Rattle.fax_store.proofs.NumberedLemmas.{all_mapped}
 use Rattle.fax_store.proofs.CountLemmas.{calls_reported, closed_count, has_placed, jobs_reported, jobs_shut, one, one_less, one_more, placed_count, shut as shut_at, unmoved}
-use Rattle.fax_schema.proofs.ColumnLemmas.{kept_permuted, record_of, all_kept, row_of}
+use Rattle.fax_layout.proofs.ColumnLemmas.{kept_permuted, record_of, all_kept, row_of}
 use Rattle.fax_tables.proofs.FreeLemmas.{free_row, none_found}
 use Rattle.fax_tables.proofs.RefusalLemmas.{no_rule_broken}
 use Rattle.fax_tables.proofs.StandLemmas.{hold_may, grant_may}
@@ -54,7 +54,8 @@ use Rattle.sqlite_schema.specs.Rules.{Keeps, equal, clashes}
 use Rattle.sqlite_value.specs.Keys.{plain}
 use Rattle.fax_tables.proofs.TablesLemmas.{AreRecords, AreHeld, Parts, grants, holds, parts_of, means_of, calls_as, calls_changed, calls_of, held_as, grants_changed, holds_changed, by_rowid_put}
 use Rattle.fax_schema.proofs.UpdateLemmas.{gone_project, updated, deleted}
-use Rattle.fax_schema.proofs.WriteLemmas.{KeepsOthers, unreferred, inserts}
+use Rattle.fax_layout.proofs.WriteLemmas.{KeepsOthers, inserts}
+use Rattle.fax_schema.proofs.OursLemmas.{unreferred}
 use Rattle.fax_store.proofs.KeptLemmas.{find_none, find_some, one_row}
 use Rattle.std.proofs.lemmas.Slice.Eq.{bytes_eq-Decides}
 use Rattle.sqlite.specs.Collation.TheVariants.{Binary}

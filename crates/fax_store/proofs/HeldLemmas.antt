@@ -42,13 +42,13 @@ use Rattle.fax_tables.specs.Job.{IsLawfulJob, IsText}
 use Rattle.fax_tables.specs.Row.{number, hold_columns}
 use Rattle.fax_schema.specs.Schema.{alike_list, calls_tree, holds_tree, jobs_tree, our_tables, core_tables}
 use Rattle.fax_tables.specs.Tables.{IsLawfulGrant, TablesMean}
-use Rattle.fax_schema.proofs.ColumnLemmas.{all_kept, record_of}
-use Rattle.fax_schema.proofs.CompareLemmas.{are_equal, number_same}
+use Rattle.fax_layout.proofs.ColumnLemmas.{all_kept, record_of}
+use Rattle.fax_layout.proofs.CompareLemmas.{are_equal, number_same}
 use Rattle.fax_tables.proofs.CreateLemmas.{kept_rows}
-use Rattle.fax_schema.proofs.EditLemmas.{has_mapped, has_permuted, none_shown, shown_one}
+use Rattle.fax_layout.proofs.EditLemmas.{has_mapped, has_permuted, none_shown, shown_one}
 use Rattle.fax_tables.proofs.IndexLemmas.{length_map}
 use Rattle.fax_tables.proofs.KeyLemmas.{found_holds, numbered_found}
-use Rattle.fax_schema.proofs.SelectLemmas.{answers, passes, show}
+use Rattle.fax_layout.proofs.SelectLemmas.{answers, passes, show}
 use Rattle.fax_schema.proofs.StatementForms.{Selects}
 use Rattle.fax_tables.proofs.TablesLemmas.{counted_as, row_of, rows_mean}
 use Rattle.fax_store.proofs.CandidateLemmas.{within}

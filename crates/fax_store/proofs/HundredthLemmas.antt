@@ -35,8 +35,8 @@ use Rattle.fax_core.specs.Queue.{Queue, Entry}
 use Rattle.fax_schema.specs.declared.statements.TheConstants.{SELECT_HUNDREDTH}
 use Rattle.fax_schema.specs.Schema.{our_tables, replies_tree}
 use Rattle.fax_schema.proofs.ClientTexts.{given_up_tests}
-use Rattle.fax_schema.proofs.ColumnLemmas.{kept_columns}
-use Rattle.fax_schema.proofs.SelectLemmas.{each_passing, passes, rows_by, show}
+use Rattle.fax_layout.proofs.ColumnLemmas.{kept_columns}
+use Rattle.fax_layout.proofs.SelectLemmas.{each_passing, passes, rows_by, show}
 use Rattle.fax_schema.proofs.StatementForms.{SelectsAll}
 use Rattle.fax_tables.specs.Row.{entry_columns, number}
 use Rattle.fax_tables.specs.Tables.{TablesMean}

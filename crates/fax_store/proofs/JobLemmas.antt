@@ -32,11 +32,11 @@ use Rattle.fax_core.proofs.DecisionLemmas.{aged_number}
 use Rattle.fax_core.proofs.PlaceLemmas.{find_map, length_map, number_found}
 use Rattle.fax_core.proofs.StampLemmas.{ends_as, ends_none, ends_twice, times_after}
 use Rattle.fax_tables.specs.Tables.{TablesMean}
-use Rattle.fax_schema.specs.ByRowid.{IsByRowid}
+use Rattle.fax_layout.specs.ByRowid.{IsByRowid}
 use Rattle.fax_store.specs.Calls.{shown}
 use Rattle.fax_store.specs.Store.{FindsRow, HasRun}
 use Rattle.fax_store.specs.declared.store.Store.{Store}
-use Rattle.fax_schema.proofs.CompareLemmas.{same_row, cast_int, cast_null, number_same, at_most, at_least, is_number}
+use Rattle.fax_layout.proofs.CompareLemmas.{same_row, cast_int, cast_null, number_same, at_most, at_least, is_number}
 use Rattle.fax_tables.proofs.FreeLemmas.{free_row, untaken}
 use Rattle.fax_tables.proofs.RefusalLemmas.{no_rule_broken}
 use Rattle.fax_tables.proofs.StandLemmas.{job_may}
@@ -48,8 +48,9 @@ use Rattle.fax_tables.proofs.KeyLemmas.{found_holds, numbered_found, free_of, ro
 use Rattle.fax_tables.proofs.TablesLemmas.{AreRecords, row_of, parts_of, means_of, calls_as, calls_of, jobs_changed, by_rowid_put}
 use Rattle.fax_store.proofs.CountLemmas.{calls_placed, jobs_placed, calls_mapped, jobs_mapped, unmoved}
 use Rattle.fax_tables.proofs.RowLemmas.{sent_low, change_params}
-use Rattle.fax_schema.proofs.WriteLemmas.{KeepsOthers, unreferred, inserts}
-use Rattle.fax_schema.proofs.SelectLemmas.{passes, show, answers}
+use Rattle.fax_layout.proofs.WriteLemmas.{KeepsOthers, inserts}
+use Rattle.fax_schema.proofs.OursLemmas.{unreferred}
+use Rattle.fax_layout.proofs.SelectLemmas.{passes, show, answers}
 use Rattle.fax_schema.proofs.StatementForms.{Selects}
 use Rattle.sqlite_sql.specs.Term.{Term}
 use Rattle.fax_schema.proofs.StatementTexts.{brief_names, brief_project, job_names, job_project, job_terms, job_tests, select_brief, select_job, insert_job, change_project, update_job, expired_tests, expired_project, expire_jobs, number_project, select_expired}
@@ -66,7 +67,7 @@ use Rattle.fax_value.specs.JobTag.{IsJobTag}
 use Rattle.fax_value.specs.Name.{IsName}
 use Rattle.fax_job.specs.Pair.{Pair, ArePairs, are_unknown}
 use Rattle.fax_value.specs.Value.{IsStatus}
-use Rattle.fax_schema.proofs.EditLemmas.{has_mapped, one_shown, shown_one}
+use Rattle.fax_layout.proofs.EditLemmas.{has_mapped, one_shown, shown_one}
 use Rattle.fax_schema.proofs.UpdateLemmas.{updated}
 
 module _ (n : ℕ) where

@@ -32,7 +32,7 @@ use Rattle.fax_schema.specs.Schema.{our_tables, jobs_tree}
 use Rattle.fax_tables.specs.Tables.{TablesMean}
 use Rattle.fax_tables.proofs.IndexLemmas.{length_map}
 use Rattle.sqlite_sql.specs.Term.{Term}
-use Rattle.fax_schema.proofs.SelectLemmas.{rows_by, passes, show, put_out, in_order}
+use Rattle.fax_layout.proofs.SelectLemmas.{rows_by, passes, show, put_out, in_order}
 use Rattle.fax_schema.proofs.StatementForms.{SelectsBy}
 use Rattle.fax_tables.proofs.TablesLemmas.{row_of}
 use Rattle.fax_job.specs.declared.job.JobFields.{JobFields}
@@ -46,8 +46,8 @@ use Rattle.fax_job.specs.declared.job.Phase.{Phase}
 use Rattle.fax_job.specs.declared.job.Phase.TheVariants.{Held, Waiting, Granted, Done, Failed}
 use Rattle.fax_tables.specs.Row.{number, phase_number}
 use Rattle.fax_store.proofs.CountLemmas.{lower}
-use Rattle.fax_schema.proofs.ColumnLemmas.{all_kept}
-use Rattle.fax_schema.proofs.CompareLemmas.{are_equal, at_least, compared, equal_numbers, at_most, or_else}
+use Rattle.fax_layout.proofs.ColumnLemmas.{all_kept}
+use Rattle.fax_layout.proofs.CompareLemmas.{are_equal, at_least, compared, equal_numbers, at_most, or_else}
 
 abbrev pub Below : Job → Job → Type 0
 Below a b = a.number < b.number

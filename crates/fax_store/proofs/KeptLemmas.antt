@@ -1,7 +1,7 @@
 -- What the texts on the kept replies read and write. A request number of a client has one at most, and a look-up finds it.
 use Rattle.std.proofs.Common.{◌≡◌, inl, inr, ℕ, eqb, List, [], ◌∷◌, drop, Bool, true, false, not, ◌&&◌, Some, None, refl, sym, ap, ap₂, subst, ◌∙◌, ℤ, ◌++◌, All, Option, Err, MatchOption, find, bytes_eq, Ordering, Less, Equal, Greater}
 use Rattle.sqlite_trees.proofs.ListLemmas.{IsPermutation-same}
-use Rattle.fax_schema.proofs.ColumnLemmas.{row_of, record_of}
+use Rattle.fax_layout.proofs.ColumnLemmas.{row_of, record_of}
 use Rattle.fax_store.proofs.MeaningLemmas.{one_entry}
 use Rattle.std.specs.Ordering.{is_ne}
 use Rattle.std.specs.Cmp.Lexicographic.{bytes_decides}
@@ -27,8 +27,8 @@ use Rattle.fax_core.specs.Queue.{Entry, Queue, open_grants}
 use Rattle.fax_store.specs.Kept.{IsOf, AreKeptOnce, TablesKeepOnce, HasReply, IsUnkept}
 use Rattle.fax_tables.specs.Row.{number, entry_columns}
 use Rattle.fax_schema.specs.Schema.{our_tables, replies_tree}
-use Rattle.fax_schema.specs.ByRowid.{IsByRowid}
-use Rattle.fax_schema.proofs.CompareLemmas.{compared, equal_texts, number_same, are_equal, same_number, same_row, cast_int, cast_null}
+use Rattle.fax_layout.specs.ByRowid.{IsByRowid}
+use Rattle.fax_layout.proofs.CompareLemmas.{compared, equal_texts, number_same, are_equal, same_number, same_row, cast_int, cast_null}
 use Rattle.std.proofs.lemmas.List.Elements.{recursion_from_All}
 use Rattle.sqlite.specs.State.{State, Executes}
 use Rattle.sqlite.specs.declared.types.Value.{Value}
@@ -44,10 +44,11 @@ use Rattle.fax_tables.proofs.StandLemmas.{reply_may}
 use Rattle.fax_tables.specs.Fault.{fault_of}
 use Rattle.fax_tables.specs.declared.fault.StoreFault.TheVariants.{Unavailable}
 use Rattle.sqlite.specs.declared.error.Error.{Error}
-use Rattle.fax_schema.proofs.SelectLemmas.{passes, show}
+use Rattle.fax_layout.proofs.SelectLemmas.{passes, show}
 use Rattle.fax_store.proofs.FoundLemmas.{none_passes, row_passes, with_id}
 use Rattle.fax_schema.proofs.StatementTexts.{reply_tests, reply_project, reply_terms, select_reply, insert_reply}
-use Rattle.fax_schema.proofs.WriteLemmas.{KeepsOthers, unreferred, inserts}
+use Rattle.fax_layout.proofs.WriteLemmas.{KeepsOthers, inserts}
+use Rattle.fax_schema.proofs.OursLemmas.{unreferred}
 use Rattle.fax_tables.proofs.TablesLemmas.{replies, parts_of, means_of, calls_of, replies_changed, one_more}
 use Rattle.sqlite.specs.Cast.{cast_row}
 use Rattle.sqlite.specs.Edit.{with_rowid, next_rowid}

@@ -37,10 +37,10 @@ use Rattle.fax_core.specs.Times.{has_ended}
 use Rattle.fax_core.specs.declared.times.Times.{Times}
 use Rattle.fax_job.specs.declared.job.Phase.{Phase}
 use Rattle.fax_job.specs.declared.job.Phase.TheVariants.{Held, Waiting, Granted, Done, Failed}
-use Rattle.fax_schema.proofs.ColumnLemmas.{all_kept}
-use Rattle.fax_schema.proofs.CompareLemmas.{compared, is_number, more_than}
+use Rattle.fax_layout.proofs.ColumnLemmas.{all_kept}
+use Rattle.fax_layout.proofs.CompareLemmas.{compared, is_number, more_than}
 use Rattle.fax_schema.proofs.PurgeTexts.{leaving_query, leaving_tests, select_leaving}
-use Rattle.fax_schema.proofs.SelectLemmas.{each_passing}
+use Rattle.fax_layout.proofs.SelectLemmas.{each_passing}
 use Rattle.fax_schema.specs.Schema.{our_tables}
 use Rattle.fax_schema.specs.declared.statements.TheConstants.{SELECT_LEAVING}
 use Rattle.fax_store.proofs.CountLemmas.{lower}

@@ -3,7 +3,6 @@ pub mod StoreLemmas
 pub mod CountLemmas
 pub mod StatementLemmas
 pub mod TextLemmas
-pub mod ShownLemmas
 pub mod StopLemmas
 pub mod MetaLemmas
 pub mod WorkLemmas

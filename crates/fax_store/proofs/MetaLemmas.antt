@@ -23,15 +23,15 @@ use Rattle.fax_store.specs.Meta.{MetaStands, with_clock}
 use Rattle.fax_tables.specs.Meta.{meta_shown, numbers_shown}
 use Rattle.fax_tables.specs.declared.meta.Meta.{Meta}
 use Rattle.fax_tables.specs.Tables.{TablesMean, IsLawfulMeta}
-use Rattle.fax_schema.specs.ByRowid.{IsByRowid}
+use Rattle.fax_layout.specs.ByRowid.{IsByRowid}
 use Rattle.fax_store.specs.Store.{FindsRow, HasRun}
-use Rattle.fax_schema.proofs.CompareLemmas.{compared, number_same, same_row, cast_int, cast_null}
-use Rattle.fax_schema.proofs.SelectLemmas.{passes, answers, only_row, only_found}
+use Rattle.fax_layout.proofs.CompareLemmas.{compared, number_same, same_row, cast_int, cast_null}
+use Rattle.fax_layout.proofs.SelectLemmas.{passes, answers, only_row, only_found}
 use Rattle.fax_store.proofs.FoundLemmas.{one_passes}
 use Rattle.fax_schema.proofs.StatementTexts.{meta_tests, meta_project, select_meta, update_meta, update_project, update_clock, clock_project, clock_tests}
 use Rattle.fax_tables.proofs.TablesLemmas.{parts_of, means_of, calls_of, meta_changed}
 use Rattle.fax_schema.proofs.UpdateLemmas.{updated}
-use Rattle.fax_schema.proofs.WriteLemmas.{KeepsOthers}
+use Rattle.fax_layout.proofs.WriteLemmas.{KeepsOthers}
 
 -- the one row of meta passes the tests of its texts
 meta_passes : (m : Queue) (params : Row) → passes meta_tree meta_tests [] params (meta_row m) ≡ true

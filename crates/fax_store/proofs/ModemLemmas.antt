@@ -22,8 +22,8 @@ use Rattle.fax_schema.specs.Schema as schema
 use Rattle.fax_schema.specs.Schema.{our_tables, down_tree}
 use Rattle.fax_store.specs.Store.{FindsRow, HasRun}
 use Rattle.fax_tables.specs.Tables.{TablesMean}
-use Rattle.fax_schema.proofs.ColumnLemmas.{record_of, row_of, kept_columns, all_kept, none_holds}
-use Rattle.fax_schema.proofs.CompareLemmas.{are_equal, equal_texts, same_row, cast_null}
+use Rattle.fax_layout.proofs.ColumnLemmas.{record_of, row_of, kept_columns, all_kept, none_holds}
+use Rattle.fax_layout.proofs.CompareLemmas.{are_equal, equal_texts, same_row, cast_null}
 use Rattle.fax_tables.proofs.FreeLemmas.{none_of}
 use Rattle.fax_tables.proofs.RefusalLemmas.{no_rule_broken}
 use Rattle.fax_tables.proofs.StandLemmas.{down_may}
@@ -31,10 +31,11 @@ use Rattle.fax_tables.specs.Fault.{fault_of}
 use Rattle.fax_tables.specs.declared.fault.StoreFault.TheVariants.{Unavailable}
 use Rattle.sqlite.specs.declared.error.Error.{Error}
 use Rattle.fax_schema.proofs.ModemTexts.{down_tests, down_project, down_terms, select_down, insert_down, delete_down}
-use Rattle.fax_schema.proofs.SelectLemmas.{passes}
+use Rattle.fax_layout.proofs.SelectLemmas.{passes}
 use Rattle.fax_tables.proofs.TablesLemmas.{AreColumns, down, parts_of, means_of, calls_of, down_changed, one_more}
 use Rattle.fax_schema.proofs.UpdateLemmas.{gone_project, deleted}
-use Rattle.fax_schema.proofs.WriteLemmas.{KeepsOthers, unreferred, inserts}
+use Rattle.fax_layout.proofs.WriteLemmas.{KeepsOthers, inserts}
+use Rattle.fax_schema.proofs.OursLemmas.{unreferred}
 
 -- texts are equal either way round
 module _ (modem : List ℕ) where

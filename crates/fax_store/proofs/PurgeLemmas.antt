@@ -16,13 +16,13 @@ use Rattle.fax_core.specs.Queue.{Queue, job_numbered, open_grants}
 use Rattle.fax_core.specs.State.{calls_to, is_of_number}
 use Rattle.fax_core.specs.declared.grants.Grant.{Grant}
 use Rattle.fax_core.specs.declared.times.Times.{Times}
-use Rattle.fax_schema.proofs.ColumnLemmas.{all_kept}
-use Rattle.fax_schema.proofs.CompareLemmas.{is_number}
+use Rattle.fax_layout.proofs.ColumnLemmas.{all_kept}
+use Rattle.fax_layout.proofs.CompareLemmas.{is_number}
 use Rattle.fax_schema.proofs.PurgeTexts.{delete_grants, delete_job, delete_times, grants_tests}
-use Rattle.fax_schema.proofs.SelectLemmas.{passes}
+use Rattle.fax_layout.proofs.SelectLemmas.{passes}
 use Rattle.fax_schema.proofs.StatementTexts.{job_tests}
 use Rattle.fax_schema.proofs.UpdateLemmas.{deleted, gone_project}
-use Rattle.fax_schema.proofs.WriteLemmas.{KeepsOthers}
+use Rattle.fax_layout.proofs.WriteLemmas.{KeepsOthers}
 use Rattle.fax_schema.specs.Schema as schema
 use Rattle.fax_schema.specs.Schema.{grants_tree, jobs_tree, our_tables, times_tree}
 use Rattle.fax_schema.specs.declared.statements.TheConstants.{DELETE_GRANTS, DELETE_JOB, DELETE_TIMES}

@@ -18,11 +18,8 @@ use Rattle.sqlite.proofs.Callers.{IsPlain, command_of}
 use Rattle.fax_store.specs.Store.{EditsRows, HasTables, IsEdit, IsEditText, LeavesCommit}
 use Rattle.fax_schema.specs.Schema.{our_tables}
 use Rattle.fax_schema.proofs.StatementForms.{Commands}
-use Rattle.fax_schema.proofs.WriteLemmas.{went}
+use Rattle.fax_layout.proofs.WriteLemmas.{same_value, went}
 use Rattle.sqlite_resolve.specs.declared.error.CompileError.{CompileError}
-
-pub same_value : {B E : Type 0} {a b : B} → ◌≡◌ {A = Result B E} (Ok a) (Ok b) → a ≡ b
-same_value e = cc
 
 module _ (old new : State) (sql : List ℕ) (params : Row) where
   -- the database was open where a query shows its rows, and is

@@ -16,12 +16,12 @@ use Rattle.sqlite.specs.Given.{IsPlain}
 use Rattle.sqlite_schema.specs.declared.schema.Schema.{Schema}
 use Rattle.fax_schema.specs.Schema.{our_tables}
 use Rattle.fax_tables.specs.declared.fault.StoreFault.{StoreFault}
-use Rattle.fax_tables.proofs.StopLemmas.{Ends, inside_commits_nothing, nothing_by, nothing_then}
+use Rattle.fax_layout.proofs.StopLemmas.{Ends, inside_commits_nothing, nothing_by, nothing_then}
 use Rattle.fax_store.specs.declared.store.TheConstants.{BEGIN, COMMIT, ROLLBACK}
 use Rattle.fax_store.specs.Store.{Serves, HasTables, MayFind, CommitsNothing, EditsRows, IsEdit, IsEditText, IsQueryText, Reads}
 use Rattle.fax_store.specs.Work.{IsActive, Opens, Withholds, MayCommit}
 use Rattle.fax_store.proofs.ControlLemmas.{IsControl, begin_is, begins, rollback_is}
-use Rattle.fax_store.proofs.ShownLemmas.{shows_nothing}
+use Rattle.fax_layout.proofs.ShownLemmas.{shows_nothing}
 use Rattle.fax_store.proofs.StatementLemmas.{edit_shows}
 use Rattle.fax_store.proofs.StoreLemmas.{cleaner}
 

@@ -30,19 +30,20 @@ use Rattle.sqlite_rules.proofs.TableLemmas.{int_is}
 use Rattle.sqlite_schema.specs.Rules.{equal}
 use Rattle.sqlite_sql.specs.Term.{Env, holds}
 use Rattle.sqlite_sql.specs.declared.ops.CompareOp.TheVariants.{Eq}
-use Rattle.fax_schema.proofs.RowsLemmas.{all_behind, all_front}
+use Rattle.fax_layout.proofs.RowsLemmas.{all_behind, all_front}
 use Rattle.sqlite_trees.proofs.ListLemmas.{all_of, filter_all, filter_none, filter_same, map-map}
 use Rattle.sqlite_value.specs.Order.{value_cmp}
 use Rattle.sqlite_value.proofs.OrderLemmas.{value_cmp_total}
-use Rattle.fax_schema.proofs.ColumnLemmas.{none_holds}
-use Rattle.fax_schema.proofs.CompareLemmas.{compared}
-use Rattle.fax_schema.proofs.EditLemmas.{fewer_by, one_shown, shown_one}
-use Rattle.fax_schema.proofs.SelectLemmas.{each_passing}
+use Rattle.fax_layout.proofs.ColumnLemmas.{none_holds}
+use Rattle.fax_layout.proofs.CompareLemmas.{compared}
+use Rattle.fax_layout.proofs.EditLemmas.{fewer_by, one_shown, shown_one}
+use Rattle.fax_layout.proofs.SelectLemmas.{each_passing}
 use Rattle.fax_schema.proofs.StatementTexts.{job_tests, lost_on, lost_tests}
 use Rattle.fax_schema.proofs.TimesTexts.{delete_grant, select_strays, strays_query}
 use Rattle.fax_schema.proofs.UpdateLemmas.{deleted, gone_project, program_of}
-use Rattle.fax_schema.proofs.WriteLemmas.{KeepsOthers, deletes, unreferred}
-use Rattle.fax_schema.specs.ByRowid.{IsByRowid}
+use Rattle.fax_layout.proofs.WriteLemmas.{KeepsOthers, deletes}
+use Rattle.fax_schema.proofs.OursLemmas.{unreferred}
+use Rattle.fax_layout.specs.ByRowid.{IsByRowid}
 use Rattle.fax_schema.specs.Schema as schema
 use Rattle.fax_schema.specs.Schema.{grants_tree, jobs_tree, our_tables}
 use Rattle.fax_schema.specs.declared.statements.TheConstants.{DELETE_GRANT, SELECT_STRAYS}

@@ -25,14 +25,15 @@ use Rattle.sqlite_schema.specs.declared.schema.Constraint.TheVariants.{Datatype}
 use Rattle.sqlite_schema.specs.declared.schema.Kind.TheVariants.{Integer}
 use Rattle.sqlite_trees.proofs.ListLemmas.{all_of, ascending-map, filter_all}
 use Rattle.sqlite_trees.proofs.TreeLemmas.{IsTable-put_row}
-use Rattle.fax_schema.proofs.CompareLemmas.{cast_int, cast_null, same_row}
-use Rattle.fax_schema.proofs.EditLemmas.{has_mapped, one_shown, same_rows, shown_one}
-use Rattle.fax_schema.proofs.RowsLemmas.{all_behind, all_front}
-use Rattle.fax_schema.proofs.SelectLemmas.{answers, passes, show}
+use Rattle.fax_layout.proofs.CompareLemmas.{cast_int, cast_null, same_row}
+use Rattle.fax_layout.proofs.EditLemmas.{has_mapped, one_shown, same_rows, shown_one}
+use Rattle.fax_layout.proofs.RowsLemmas.{all_behind, all_front}
+use Rattle.fax_layout.proofs.SelectLemmas.{answers, passes, show}
 use Rattle.fax_schema.proofs.StatementTexts.{meta_project, meta_tests, select_meta}
 use Rattle.fax_schema.proofs.TimesTexts.{insert_times, phases_project, select_phases, times_terms}
-use Rattle.fax_schema.proofs.WriteLemmas.{InsertsRow, KeepsOthers, inserts, unreferred}
-use Rattle.fax_schema.specs.ByRowid.{IsByRowid}
+use Rattle.fax_layout.proofs.WriteLemmas.{InsertsRow, KeepsOthers, inserts}
+use Rattle.fax_schema.proofs.OursLemmas.{unreferred}
+use Rattle.fax_layout.specs.ByRowid.{IsByRowid}
 use Rattle.fax_schema.specs.Schema as schema
 use Rattle.fax_schema.specs.Schema.{jobs_tree, meta_tree, our_tables, times_tree}
 use Rattle.fax_schema.specs.declared.statements.TheConstants.{INSERT_TIMES, SELECT_META, SELECT_PHASES}

@@ -17,16 +17,17 @@ use Rattle.fax_core.specs.Ledger.{Ledger}
 use Rattle.fax_core.specs.Queue.{Queue, open_grants, times_numbered}
 use Rattle.fax_core.specs.Stamp.{ended_where}
 use Rattle.fax_core.specs.declared.times.Times.{Times}
-use Rattle.fax_schema.specs.ByRowid.{IsByRowid}
+use Rattle.fax_layout.specs.ByRowid.{IsByRowid}
 use Rattle.fax_schema.specs.Schema as schema
 use Rattle.fax_schema.specs.Schema.{our_tables, times_tree}
 use Rattle.fax_schema.specs.declared.statements.TheConstants.{END_TIMES, INSERT_TIMES, SELECT_TIMES}
-use Rattle.fax_schema.proofs.CompareLemmas.{same_row, cast_int, cast_null, number_same}
-use Rattle.fax_schema.proofs.SelectLemmas.{answers, passes, show}
+use Rattle.fax_layout.proofs.CompareLemmas.{same_row, cast_int, cast_null, number_same}
+use Rattle.fax_layout.proofs.SelectLemmas.{answers, passes, show}
 use Rattle.fax_schema.proofs.StatementTexts.{job_tests}
 use Rattle.fax_schema.proofs.TimesTexts.{end_project, end_times, insert_times, select_times, times_names, times_project, times_terms}
 use Rattle.fax_schema.proofs.UpdateLemmas.{updated}
-use Rattle.fax_schema.proofs.WriteLemmas.{KeepsOthers, unreferred, inserts}
+use Rattle.fax_layout.proofs.WriteLemmas.{KeepsOthers, inserts}
+use Rattle.fax_schema.proofs.OursLemmas.{unreferred}
 use Rattle.fax_store.proofs.NumberedLemmas.{all_mapped}
 use Rattle.fax_store.specs.Calls.{shown}
 use Rattle.fax_store.specs.Store.{FindsRow, HasRun}

@@ -8,8 +8,8 @@ use Rattle.sqlite.specs.Order.{Row}
 use Rattle.sqlite.specs.State.{State, HasCleanDisk, IsUnchanged, KeepsCommit}
 use Rattle.sqlite_schema.specs.declared.schema.Table.{Table}
 use Rattle.sqlite_trees.specs.declared.store.Store.{Ghosts}
-use Rattle.fax_schema.proofs.RowsLemmas.{at_tree}
-use Rattle.fax_schema.proofs.WriteLemmas.{KeepsOthers}
+use Rattle.fax_layout.proofs.RowsLemmas.{at_tree}
+use Rattle.fax_layout.proofs.WriteLemmas.{KeepsOthers}
 use Rattle.fax_schema.specs.Schema.{calls_tree, our_tables}
 use Rattle.fax_store.proofs.WorkLemmas.{both_as, refused_as}
 use Rattle.fax_store.specs.Adopt.{ChangesOnly, HasNone, Turns, TurnsOrUnavailable}
@@ -17,7 +17,7 @@ use Rattle.fax_store.specs.Calls.{Edits, Finds, shown}
 use Rattle.fax_store.specs.Store.{CommitsNothing, HasRun, HasTables, LeavesCommit}
 use Rattle.fax_store.specs.declared.store.Store.{Store}
 use Rattle.fax_tables.proofs.CreateLemmas.{commit_kept, goes_on, inside_shown}
-use Rattle.fax_tables.proofs.StopLemmas.{nothing_then}
+use Rattle.fax_layout.proofs.StopLemmas.{nothing_then}
 use Rattle.fax_tables.specs.Tables.{GoesOn}
 use Rattle.fax_tables.specs.declared.fault.StoreFault.{StoreFault}
 use Rattle.fax_tables.specs.declared.fault.StoreFault.TheVariants.{Unavailable}

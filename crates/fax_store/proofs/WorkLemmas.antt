@@ -16,7 +16,7 @@ use Rattle.fax_store.specs.Work.{IsOver, Holds, IsUnderWay, Works, Changes, Chan
 use Rattle.fax_schema.specs.Schema.{our_tables}
 use Rattle.fax_store.proofs.StatementLemmas.{edit_shows}
 use Rattle.fax_store.proofs.StoreLemmas.{same_tables, rows_left}
-use Rattle.fax_schema.proofs.WriteLemmas.{KeepsOthers}
+use Rattle.fax_layout.proofs.WriteLemmas.{KeepsOthers}
 
 -- what is found is made of what is there
 pub there_as : {X Y : Type 0} (f : X → Y) (o : Option X) (y : Y) → Some y ≡ option_map f o → (x : X) × (o ≡ Some x) × (y ≡ f x)

@@ -24,7 +24,7 @@ use Rattle.fax_core.specs.State.{is_of_number}
 use Rattle.fax_value.specs.Dial.{IsCanonical}
 use Rattle.fax_tables.specs.Job.{IsText}
 use Rattle.fax_tables.specs.Row.{number, raised}
-use Rattle.fax_schema.specs.ByRowid.{IsByRowid}
+use Rattle.fax_layout.specs.ByRowid.{IsByRowid}
 use Rattle.fax_schema.specs.Schema.{AreOurs, alike_list, no_tables, our_tables, core_tables, calls_tree, floors_tree, grants_tree, holds_tree, jobs_tree, meta_tree, times_tree}
 use Rattle.fax_schema.specs.Way.{IsWay}
 use Rattle.fax_schema.specs.declared.way.Way.{Way}
@@ -35,7 +35,7 @@ use Rattle.fax_store.specs.Work.{Withholds}
 use Rattle.fax_store.specs.Store.{CommitsNothing, GoesBack, HasTables, LeavesAlone, MayMake, Means, RowsFound, Serves}
 use Rattle.fax_tables.specs.declared.fault.StoreFault.{StoreFault}
 use Rattle.fax_tables.specs.declared.fault.StoreFault.TheVariants.{Strange, Unavailable}
-use Rattle.fax_tables.specs.Stop.{HoldsBack}
+use Rattle.fax_layout.specs.Stop.{HoldsBack}
 
 -- this value is the number of the job, as SQL compares them
 abbrev pub IsOf : Value → Row → Type 0

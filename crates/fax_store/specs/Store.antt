@@ -19,7 +19,7 @@ use Rattle.fax_core.specs.Ledger.{Ledger}
 use Rattle.fax_core.specs.Queue.{Queue}
 use Rattle.fax_schema.specs.Schema.{our_tables}
 use Rattle.fax_tables.specs.Row.{number}
-pub use Rattle.fax_tables.specs.Stop.{MayFind, CommitsNothing}
+pub use Rattle.fax_layout.specs.Stop.{MayFind, CommitsNothing}
 use Rattle.fax_tables.specs.Tables.{TablesMean, IsAtRest}
 
 -- The disk has returned what was written, and no fault of it has shut the database. Both hold of memory.

@@ -17,11 +17,12 @@ ghost use Rattle.fax_tables.specs.Tables.{HasNewCalls, TablesMean, version_of, v
 
 use crate::store::{BEGIN, COMMIT, Store};
 use fax_job::Dial;
+use fax_layout::has_no_tables;
 use fax_schema::statements::{
     DELETE_GRANT, INSERT_TIMES, SELECT_DIAL, SELECT_HELD, SELECT_LOST, SELECT_META, SELECT_PHASES,
     SELECT_STRAYS, SELECT_VERSION, UPDATE_VERSION,
 };
-use fax_schema::{Way, has_floors, has_no_tables, has_times, way_of};
+use fax_schema::{Way, has_floors, has_times, way_of};
 use fax_tables::{
     StoreFault, create_tables, dial_in, held_job_in, is_over_phase, is_version, renew_tables,
 };

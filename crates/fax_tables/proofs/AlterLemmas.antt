@@ -5,10 +5,11 @@ use Rattle.sqlite.specs.State.{State, HasCleanDisk, CommitsBy, Executes, KeepsCo
 use Rattle.sqlite.specs.declared.error.Error.{Error}
 use Rattle.sqlite_trees.specs.declared.store.Store.{Ghosts}
 use Rattle.fax_tables.specs.Making.{Alters, Always}
-use Rattle.fax_tables.specs.Stop.{HoldsBack}
+use Rattle.fax_layout.specs.Stop.{HoldsBack}
 use Rattle.fax_tables.specs.Tables.{GoesOn}
-use Rattle.fax_tables.proofs.CreateLemmas.{clean_before, commit_kept, goes_on, refused_keeps}
-use Rattle.fax_tables.proofs.StopLemmas.{holds_back_then}
+use Rattle.fax_layout.proofs.DatabaseLemmas.{clean_before}
+use Rattle.fax_tables.proofs.CreateLemmas.{commit_kept, goes_on, refused_keeps}
+use Rattle.fax_layout.proofs.StopLemmas.{holds_back_then}
 
 not_done : {A E : Type 0} (X : Type 0) (r : Result A E) → IsErr r → OnOk r X
 not_done X (Ok x) is = absurd (let e = is in cc)

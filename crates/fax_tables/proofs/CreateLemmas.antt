@@ -1,14 +1,13 @@
 -- What the texts that make the tables leave.
-use Rattle.std.proofs.Common.{◌≡◌, ◌≤◌, ℕ, pos, List, [], true, false, IsTrue, None, Ok, Err, Result, refl, sym, ap, ap₂, subst, subst₂, ◌∙◌, arith, if◌then◌else◌}
+use Rattle.std.proofs.Common.{◌≡◌, ◌≤◌, ℕ, pos, List, [], true, false, IsTrue, None, Ok, Err, Result, refl, sym, ap, ap₂, subst, subst₂, ◌∙◌, if◌then◌else◌}
 use Rattle.std.specs.List.{AllByRecursion}
 use Rattle.sqlite.specs.Tree.{Trees, put_row}
 use Rattle.sqlite.specs.Cast.{cast_row}
 use Rattle.sqlite.specs.Edit.{with_rowid}
 use Rattle.sqlite.specs.Rowids.TheVariants.{Chosen}
-use Rattle.sqlite.specs.View.{doubt}
 use Rattle.sqlite.specs.Effect.{Database, IsDatabase, RefusesToAlter}
 use Rattle.sqlite.specs.Listing.{understood}
-use Rattle.sqlite.specs.State.{State, HasCleanDisk, Executes, KeepsCommit, Shows, mode_of}
+use Rattle.sqlite.specs.State.{State, Executes, KeepsCommit, Shows, mode_of}
 use Rattle.sqlite.specs.declared.error.Error.{Error}
 use Rattle.std.specs.Bool.{MatchBool}
 use Rattle.sqlite.specs.Rows.{Outcome, Task}
@@ -27,21 +26,18 @@ use Rattle.fax_schema.specs.declared.statements.TheConstants.{INSERT_META}
 use Rattle.fax_core.specs.Ledger.{empty_ledger}
 use Rattle.fax_core.specs.Queue.{empty_queue}
 use Rattle.fax_schema.specs.Schema as schema
-use Rattle.fax_schema.specs.Schema.{no_tables, first_bare, first_list, second_list, both_list, added_list, core_list, second_bare, bare_tables, core_tables, our_tables, has_floors, has_times, floors_tree, times_tree, meta_tree}
+use Rattle.fax_schema.specs.Schema.{no_tables, first_bare, first_list, second_list, both_list, added_list, core_list, second_bare, bare_tables, our_tables, has_floors, has_times, floors_tree, times_tree, meta_tree}
 use Rattle.fax_tables.specs.Row.{meta_row}
 use Rattle.fax_tables.specs.Tables.{GoesOn, HasEmptyTables, Renews, TablesMean, added_in, has_added}
 use Rattle.fax_tables.proofs.TablesLemmas.{Name, founded, is_ours, meta, rows_kept, tree_of}
 use Rattle.fax_schema.proofs.CreateTexts.{AddsIndex, LosesIndex, TakesAway}
 use Rattle.fax_schema.proofs.StatementForms.{Makes}
-use Rattle.fax_schema.proofs.CompareLemmas.{same_row, cast_int, cast_null}
+use Rattle.fax_layout.proofs.CompareLemmas.{same_row, cast_int, cast_null}
 use Rattle.fax_schema.proofs.StatementTexts.{insert_meta}
-use Rattle.fax_schema.proofs.RowsLemmas.{all_behind, all_front, at_tree}
-pub use Rattle.fax_schema.proofs.RowsLemmas.{kept_rows}
-use Rattle.fax_schema.proofs.WriteLemmas.{went, unreferred, inserts}
-
--- a disk that is clean at the end was clean before
-pub clean_before : (old new : State) → doubt old.is_clean ≤ doubt new.is_clean → HasCleanDisk new → HasCleanDisk old
-clean_before old new kept clean = omega arith
+use Rattle.fax_layout.proofs.RowsLemmas.{all_behind, all_front, at_tree}
+pub use Rattle.fax_layout.proofs.RowsLemmas.{kept_rows}
+use Rattle.fax_layout.proofs.WriteLemmas.{went, inserts}
+use Rattle.fax_schema.proofs.OursLemmas.{unreferred}
 
 same_ok : {A E : Type 0} {a b : A} → ◌≡◌ {A = Result A E} (Ok a) (Ok b) → a ≡ b
 same_ok e = cc

@@ -25,11 +25,11 @@ use Rattle.sqlite_sql.specs.declared.ops.CompareOp.TheVariants.{Ne}
 use Rattle.sqlite_sql.specs.Ops.{test}
 use Rattle.sqlite_value.specs.Order.{value_cmp}
 use Rattle.sqlite_value.proofs.OrderLemmas.{value_cmp-Int, value_cmp_total}
-use Rattle.fax_schema.specs.ByRowid.{IsByRowid}
-use Rattle.fax_schema.proofs.AppendLemmas.{all_below}
-use Rattle.fax_schema.proofs.ColumnLemmas.{none_holds}
-use Rattle.fax_schema.proofs.CompareLemmas.{compared}
-use Rattle.fax_schema.proofs.EditLemmas.{has_mapped}
+use Rattle.fax_layout.specs.ByRowid.{IsByRowid}
+use Rattle.fax_layout.proofs.AppendLemmas.{all_below}
+use Rattle.fax_layout.proofs.ColumnLemmas.{none_holds}
+use Rattle.fax_layout.proofs.CompareLemmas.{compared}
+use Rattle.fax_layout.proofs.EditLemmas.{has_mapped}
 use Rattle.fax_tables.specs.Row.{number}
 
 -- a rowid is its own

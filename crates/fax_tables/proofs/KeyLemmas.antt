@@ -19,8 +19,8 @@ use Rattle.sqlite_value.specs.Order.{value_cmp}
 use Rattle.sqlite_value.proofs.OrderLemmas.{value_cmp-Int}
 use Rattle.fax_tables.specs.Place.{placed}
 use Rattle.fax_tables.specs.Row.{number}
-use Rattle.fax_schema.proofs.CompareLemmas.{are_equal, same_number, number_same}
-use Rattle.fax_schema.proofs.EditLemmas.{has_mapped, shown_one, none_shown}
+use Rattle.fax_layout.proofs.CompareLemmas.{are_equal, same_number, number_same}
+use Rattle.fax_layout.proofs.EditLemmas.{has_mapped, shown_one, none_shown}
 
 module _ {X : Type 0} (row : X → Row) (num : X → ℕ) (ids : (x : X) → rowid (row x) ≡ number (num x)) where
   -- no later row has the number of the first

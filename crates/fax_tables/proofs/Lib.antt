@@ -10,7 +10,6 @@ pub mod RefusalLemmas
 pub mod StandLemmas
 pub mod CreateLemmas
 pub mod WayLemmas
-pub mod StopLemmas
 pub mod AlterLemmas
 pub mod MakingLemmas
 pub mod Rows

@@ -22,12 +22,12 @@ use Rattle.fax_schema.specs.Schema.{AreOurs, calls_tree, core_list, core_tables,
 use Rattle.fax_schema.specs.Way.{Leads, changes, texts_of}
 use Rattle.fax_schema.proofs.CreateTexts.{Passes, Turns, passes}
 use Rattle.fax_schema.proofs.GrantTexts.{created_calls, makes_calls}
-use Rattle.fax_schema.proofs.RowsLemmas.{all_both, are_in, are_self, at_tree, is_in, kept_rows}
+use Rattle.fax_layout.proofs.RowsLemmas.{all_both, are_in, are_self, at_tree, is_in, kept_rows}
 use Rattle.fax_tables.specs.Making.{Alters, Always, IsBefore, IsOn}
 use Rattle.fax_tables.specs.Tables.{ComesTo, GoesOn, HasCoreTables, HasNewCalls}
 use Rattle.fax_tables.proofs.AlterLemmas.{alters_as, alters_none, alters_some, alters_then, statement}
 use Rattle.fax_tables.proofs.CreateLemmas.{added, dropped, lost_index, made_index, renews_core, renews_then}
-use Rattle.fax_tables.proofs.StopLemmas.{Ends, any_holds_back}
+use Rattle.fax_layout.proofs.StopLemmas.{Ends, any_holds_back}
 use Rattle.fax_tables.proofs.WayLemmas.{comes, comes_then, kept_in, kept_twice, only_in, only_there, stays, still_none}
 
 -- ---- one text

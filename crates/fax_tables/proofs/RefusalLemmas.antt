@@ -40,9 +40,9 @@ use Rattle.sqlite_value.specs.declared.keys.Order.{Order}
 use Rattle.fax_tables.specs.Fault.{fault_of}
 use Rattle.fax_schema.specs.Schema.{table_of, our_tables}
 use Rattle.fax_tables.specs.declared.fault.StoreFault.TheVariants.{Unavailable}
-use Rattle.fax_schema.proofs.RowsLemmas.{all_mapped}
+use Rattle.fax_layout.proofs.RowsLemmas.{all_mapped}
 use Rattle.fax_schema.proofs.StatementForms.{Commands}
-use Rattle.fax_schema.proofs.WriteLemmas.{unreferred}
+use Rattle.fax_schema.proofs.OursLemmas.{unreferred}
 
 -- no row refers to another
 pub unasked : (among : Among) (trees : Trees) → Refers among our_tables trees

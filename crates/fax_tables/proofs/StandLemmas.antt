@@ -19,7 +19,7 @@ use Rattle.fax_job.specs.declared.job.JobFields.{JobFields}
 use Rattle.fax_tables.specs.Row.{job_row, job_columns, grant_row, hold_columns, down_columns, entry_columns, times_row}
 use Rattle.fax_schema.specs.Schema as schema
 use Rattle.fax_schema.specs.Schema.{our_tables, jobs_tree, grants_tree, holds_tree, down_tree, replies_tree, times_tree}
-use Rattle.fax_schema.specs.ByRowid.{IsByRowid}
+use Rattle.fax_layout.specs.ByRowid.{IsByRowid}
 use Rattle.fax_tables.proofs.FreeLemmas.{chosen_free, unique_still}
 use Rattle.fax_tables.proofs.RefusalLemmas.{MayStand}
 

@@ -1,5 +1,5 @@
 -- What the rows of each table mean, and that they still do where another table changed.
-use Rattle.std.proofs.Common.{◌≡◌, ◌≢◌, ◌⊎◌, inl, inr, ◌≤◌, ◌==◌, ℕ, List, [], ◌∷◌, ◌++◌, map, drop, true, All, IsTrue, refl, sym, ap, ap₂, subst, ◌∙◌, arith}
+use Rattle.std.proofs.Common.{◌≡◌, ◌≢◌, ◌⊎◌, inl, inr, ◌≤◌, ◌==◌, ℕ, List, [], ◌∷◌, ◌++◌, map, drop, true, All, IsTrue, refl, sym, ap, subst, ◌∙◌, arith}
 use Rattle.std.specs.List.{list_any}
 use Rattle.std.specs.List.Sorted.{IsPermutation}
 use Rattle.std.proofs.lemmas.List.{map-append}
@@ -10,11 +10,7 @@ use Rattle.sqlite.specs.Tree.{rowid, put_row}
 use Rattle.sqlite.specs.View.{is_int}
 use Rattle.sqlite.specs.declared.types.Value.TheVariants.{Int}
 use Rattle.sqlite_trees.proofs.TreeLemmas.{IsTable-put_row, all-put_row}
-use Rattle.sqlite_trees.specs.Objects.{catalog_tree}
-use Rattle.sqlite_trees.specs.Tree.{Trees}
 use Rattle.sqlite_rules.specs.Lists.{Has}
-use Rattle.sqlite_catalog.specs.Listing.{Lists}
-use Rattle.sqlite_catalog.proofs.ReadLemmas.{lists_once}
 use Rattle.sqlite.specs.Order.{Row}
 use Rattle.sqlite.specs.Effect.{Database, IsDatabase}
 use Rattle.sqlite.specs.State.{State}
@@ -31,10 +27,10 @@ use Rattle.fax_tables.specs.Job.{IsLawfulJob}
 use Rattle.fax_tables.specs.Meta.{meta_of, with_meta}
 use Rattle.fax_tables.specs.Row.{job_row, grant_row, hold_columns, down_columns, entry_columns, call_columns, meta_row, times_row}
 use Rattle.fax_tables.specs.Tables.{TablesMean, AreCalls, AreCounted, AreLawfulFloors, AreLawfulTimes, HaveJobs, IsLawfulGrant, IsLawfulMeta}
-use Rattle.fax_schema.specs.ByRowid.{IsByRowid}
-use Rattle.fax_schema.proofs.AppendLemmas.{appended}
-use Rattle.fax_schema.proofs.RowsLemmas.{at_tree}
-use Rattle.fax_schema.proofs.WriteLemmas.{KeepsOthers}
+use Rattle.fax_layout.specs.ByRowid.{IsByRowid}
+use Rattle.fax_layout.proofs.AppendLemmas.{appended}
+use Rattle.fax_layout.proofs.RowsLemmas.{at_tree}
+use Rattle.fax_layout.proofs.WriteLemmas.{KeepsOthers}
 
 abbrev pub row_of : Job → Row
 row_of j = job_row (fields_of j)
@@ -317,9 +313,3 @@ founded old new schema sound row empty kept = means_of new empty_queue empty_led
     each floors = still floors (λ e. cc) (record { is = none_counted; ordered = none_by_rowid; lawful = λ client some. absurd (omega arith) })
     each calls = still calls (λ e. cc) (record { is = none_counted; ordered = none_by_rowid })
     each name = still name (λ e. cc) (record { is = refl; ordered = none_by_rowid; lawful = λ i d low. absurd (omega arith) })
-
--- a database is told by its rows, since they list its schema
-pub same_database : (a b : Database) → a.trees ≡ b.trees → IsDatabase a → IsDatabase b → a ≡ b
-same_database a b same at_a at_b =
-    let there : Lists (a.trees catalog_tree) b.schema = subst (λ (t : Trees). Lists (t catalog_tree) b.schema) (sym same) at_b.lists in
-    ap₂ (λ schema (t : Trees). record { schema = schema; trees = t }) (lists_once (a.trees catalog_tree) a.schema b.schema at_a.lists there) same

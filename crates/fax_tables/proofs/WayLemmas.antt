@@ -13,7 +13,8 @@ use Rattle.fax_schema.specs.Schema.{AreOurs, has_floors, has_times, added_list, 
 use Rattle.fax_schema.specs.Way.{changes}
 use Rattle.fax_schema.specs.declared.way.Step.{Step}
 use Rattle.fax_schema.specs.declared.way.Step.TheVariants.{DropIndexes, DropJobIndexes, DropCalls, CreateFirst, CreateSecond, CreateThird, CreateIndexes}
-use Rattle.fax_schema.proofs.RowsLemmas.{all_given, all_mapped, are_in, at_tree, is_in, not_ours}
+use Rattle.fax_layout.proofs.RowsLemmas.{all_given, all_mapped, are_in, at_tree, is_in}
+use Rattle.fax_schema.proofs.OursLemmas.{not_ours}
 use Rattle.fax_tables.specs.Tables.{ComesTo, Renews, added_in}
 use Rattle.fax_tables.proofs.CreateLemmas.{renews_core, renews_first, renews_raised, renews_second, renews_then, renews_timed}
 

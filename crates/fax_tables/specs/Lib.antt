@@ -6,5 +6,4 @@ pub mod Kept
 pub mod Meta
 pub mod Tables
 pub mod Place
-pub mod Stop
 pub mod Making

@@ -8,7 +8,7 @@ use Rattle.sqlite_trees.specs.declared.store.Store.{Ghosts}
 use Rattle.fax_schema.specs.Way.{IsWay, Leads}
 use Rattle.fax_schema.specs.declared.way.Step.{Step}
 use Rattle.fax_schema.specs.declared.way.Way.{Way}
-use Rattle.fax_tables.specs.Stop.{HoldsBack}
+use Rattle.fax_layout.specs.Stop.{HoldsBack}
 use Rattle.fax_tables.specs.Tables.{GoesOn}
 
 -- a transaction is under way over tables that these steps lead to those

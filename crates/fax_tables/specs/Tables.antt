@@ -22,7 +22,7 @@ use Rattle.fax_core.specs.declared.grants.Grant.{Grant}
 use Rattle.fax_value.specs.Limits.{last_grant, last_job, last_moment}
 use Rattle.fax_value.specs.Name.{IsName}
 use Rattle.fax_tables.specs.Grant.{IsWithinLimits}
-use Rattle.fax_schema.specs.ByRowid.{IsByRowid}
+use Rattle.fax_layout.specs.ByRowid.{IsByRowid}
 use Rattle.fax_schema.specs.Schema.{AreOurs, added_list, alike_list, first_list, core_tables, our_tables, has_floors, has_times, calls_tree, down_tree, floors_tree, grants_tree, holds_tree, jobs_tree, meta_tree, replies_tree, times_tree}
 use Rattle.fax_tables.specs.Job.{IsLawfulJob}
 use Rattle.fax_tables.specs.Row.{number, job_row, grant_row, hold_columns, down_columns, entry_columns, call_columns, meta_row, raised, times_row}

@@ -65,7 +65,7 @@ pub fn is_open_grant(grant: &Grant) -> bool
 }
 
 /// How the call in a column went, where 0 is not known.
-fn call_at(row: &Row, at: usize) -> Result<Option<Call>, StoreFault>
+pub fn call_at(row: &Row, at: usize) -> Result<Option<Call>, StoreFault>
     ensures found { (call : Option HowItWent) → HasNumber row.now at (call_number call)
         → OrUnavailable result (λ found. found ≡ call) }
     ensures stands { IfOk result (λ found. HasNumber row.now at (call_number found)) }

@@ -121,7 +121,7 @@ fn killtime_at(row: &Row, at: usize) -> Result<Option<Moment>, StoreFault>
 }
 
 /// The number to dial in a column, which has it in canonical form.
-pub(crate) fn dial_at(alloc: Global, row: &Row, at: usize) -> Result<Dial, StoreFault>
+pub fn dial_at(alloc: Global, row: &Row, at: usize) -> Result<Dial, StoreFault>
     ensures found { (text : List ℕ) → HasValue row.now at (Text text) → IsText IsCanonical text
         → OrUnavailable result (λ found. found ≡ text) }
     ensures stands { IfOk result (λ found. HasValue row.now at (Text found)) }

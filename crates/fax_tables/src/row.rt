@@ -18,7 +18,7 @@ use sqlite::{Error, Row};
 use std::alloc::Global;
 
 /// The value in a column. One that does not read as `T` is strange.
-pub(crate) fn value_at<T: FromSql>(row: &Row, at: usize) -> Result<T, StoreFault>
+pub fn value_at<T: FromSql>(row: &Row, at: usize) -> Result<T, StoreFault>
     ensures found { at < length row.now → T.FromSql.is_readable (column row.now at)
         → OrUnavailable result (T.FromSql.reads_as (column row.now at)) }
     ensures stands { IfOk result (λ found. (at < length row.now) × T.FromSql.reads_as (column row.now at) found) }
@@ -31,7 +31,7 @@ pub(crate) fn value_at<T: FromSql>(row: &Row, at: usize) -> Result<T, StoreFault
 }
 
 /// The text in a column.
-pub(crate) fn text_at(row: &Row, at: usize) -> Result<String, StoreFault>
+pub fn text_at(row: &Row, at: usize) -> Result<String, StoreFault>
     ensures found { (text : List ℕ) → HasValue row.now at (Text text) → IsUtf8 text
         → OrUnavailable result (λ found. string_bytes found ≡ text) }
     ensures stands { IfOk result (λ found. HasValue row.now at (Text (string_bytes found))) }
@@ -40,7 +40,7 @@ pub(crate) fn text_at(row: &Row, at: usize) -> Result<String, StoreFault>
 }
 
 /// The number in a column, which fits 32 bits.
-pub(crate) fn number_at(row: &Row, at: usize) -> Result<u32, StoreFault>
+pub fn number_at(row: &Row, at: usize) -> Result<u32, StoreFault>
     ensures found { (n : ℕ) → HasNumber row.now at n → n < 2 ^ 32 → OrUnavailable result (λ number. number ≡ n) }
     ensures stands { IfOk result (HasNumber row.now at) }
 {
@@ -48,7 +48,7 @@ pub(crate) fn number_at(row: &Row, at: usize) -> Result<u32, StoreFault>
 }
 
 /// The number in a column, which fits 16 bits.
-pub(crate) fn small_at(row: &Row, at: usize) -> Result<u16, StoreFault>
+pub fn small_at(row: &Row, at: usize) -> Result<u16, StoreFault>
     ensures found { (n : ℕ) → HasNumber row.now at n → n < 2 ^ 16 → OrUnavailable result (λ small. small ≡ n) }
     ensures stands { IfOk result (HasNumber row.now at) }
 {
@@ -75,7 +75,7 @@ pub(crate) fn moment_at(row: &Row, at: usize) -> Result<Moment, StoreFault>
 }
 
 /// The name in a column.
-pub(crate) fn name_at(alloc: Global, row: &Row, at: usize) -> Result<Name, StoreFault>
+pub fn name_at(alloc: Global, row: &Row, at: usize) -> Result<Name, StoreFault>
     ensures found { (text : List ℕ) → HasValue row.now at (Text text) → IsText IsName text
         → OrUnavailable result (λ found. found ≡ text) }
     ensures stands { IfOk result (λ found. HasValue row.now at (Text found)) }

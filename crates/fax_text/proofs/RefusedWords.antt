@@ -37,7 +37,11 @@ asks name words (inr (inr (inr (inr (inr (inr (inr (inr (inr (inr (inr (inl e)))
 asks name words (inr (inr (inr (inr (inr (inr (inr (inr (inr (inr (inr (inr (inl e))))))))))))) = ap (λ w. fault_of program (name ∷ w)) e
 asks name words (inr (inr (inr (inr (inr (inr (inr (inr (inr (inr (inr (inr (inr (inl e)))))))))))))) = ap (λ w. fault_of program (name ∷ w)) e
 asks name words (inr (inr (inr (inr (inr (inr (inr (inr (inr (inr (inr (inr (inr (inr (inl e))))))))))))))) = ap (λ w. fault_of program (name ∷ w)) e
-asks name words (inr (inr (inr (inr (inr (inr (inr (inr (inr (inr (inr (inr (inr (inr (inr e))))))))))))))) = ap (λ w. fault_of program (name ∷ w)) e
+asks name words (inr (inr (inr (inr (inr (inr (inr (inr (inr (inr (inr (inr (inr (inr (inr (inl e)))))))))))))))) = ap (λ w. fault_of program (name ∷ w)) e
+asks name words (inr (inr (inr (inr (inr (inr (inr (inr (inr (inr (inr (inr (inr (inr (inr (inr (inl e))))))))))))))))) = ap (λ w. fault_of program (name ∷ w)) e
+asks name words (inr (inr (inr (inr (inr (inr (inr (inr (inr (inr (inr (inr (inr (inr (inr (inr (inr (inl e)))))))))))))))))) = ap (λ w. fault_of program (name ∷ w)) e
+asks name words (inr (inr (inr (inr (inr (inr (inr (inr (inr (inr (inr (inr (inr (inr (inr (inr (inr (inr (inl e))))))))))))))))))) = ap (λ w. fault_of program (name ∷ w)) e
+asks name words (inr (inr (inr (inr (inr (inr (inr (inr (inr (inr (inr (inr (inr (inr (inr (inr (inr (inr (inr e))))))))))))))))))) = ap (λ w. fault_of program (name ∷ w)) e
 
 -- where help is asked for, no command is entered that has no fault
 helped : (words : List Text) (result : Result Plan WordsFault) → fault_of program words ≡ kind.DisplayHelp ∷ [] → Reads words result → GivesHelp result
@@ -77,7 +81,9 @@ module _ (word : Text) (unknown : NamesNoCommand word) where
   unnamed =
       let name = option_map (λ (s : Text × List Text). s.0) in
       let help = met (bytes_eq (codes "help") word) (codes "help") None in
-      let settings = met (bytes_eq (codes "settings") word) (codes "settings") help in
+      let post = met (bytes_eq (codes "post") word) (codes "post") help in
+      let worker = met (bytes_eq (codes "worker") word) (codes "worker") post in
+      let settings = met (bytes_eq (codes "settings") word) (codes "settings") worker in
       let import = met (bytes_eq (codes "import") word) (codes "import") settings in
       let sendfax = met (bytes_eq (codes "sendfax") word) (codes "sendfax") import in
       let check = met (bytes_eq (codes "check") word) (codes "check") sendfax in
@@ -88,8 +94,10 @@ module _ (word : Text) (unknown : NamesNoCommand word) where
       ∙ ap (λ b. name (met b (codes "check") sendfax)) (not_named (codes "check") word unknown.4)
       ∙ ap (λ b. name (met b (codes "sendfax") import)) (not_named (codes "sendfax") word unknown.5)
       ∙ ap (λ b. name (met b (codes "import") settings)) (not_named (codes "import") word unknown.6)
-      ∙ ap (λ b. name (met b (codes "settings") help)) (not_named (codes "settings") word unknown.7)
-      ∙ ap (λ b. name (met b (codes "help") None)) (not_named (codes "help") word unknown.8)
+      ∙ ap (λ b. name (met b (codes "settings") worker)) (not_named (codes "settings") word unknown.7)
+      ∙ ap (λ b. name (met b (codes "worker") post)) (not_named (codes "worker") word unknown.8)
+      ∙ ap (λ b. name (met b (codes "post") help)) (not_named (codes "post") word unknown.9)
+      ∙ ap (λ b. name (met b (codes "help") None)) (not_named (codes "help") word unknown.10)
 
   -- it is met as a value
   word_stray : word_met app.top.rules (names_of app) false idle 1 word nothing_held ≡ (nothing_held, value)
@@ -170,7 +178,11 @@ gives_usage name words result reads (inr (inr (inr (inr (inr (inr (inl e))))))) 
     refused (name ∷ words) (kind.MissingRequiredArgument ∷ []) result (not_asked _ (λ e. cc) (λ e. cc)) (ap (λ w. fault_of program (name ∷ w)) e) reads
 gives_usage name words result reads (inr (inr (inr (inr (inr (inr (inr (inl e)))))))) =
     refused (name ∷ words) (kind.MissingRequiredArgument ∷ []) result (not_asked _ (λ e. cc) (λ e. cc)) (ap (λ w. fault_of program (name ∷ w)) e) reads
-gives_usage name words result reads (inr (inr (inr (inr (inr (inr (inr (inr e)))))))) =
+gives_usage name words result reads (inr (inr (inr (inr (inr (inr (inr (inr (inl e))))))))) =
+    refused (name ∷ words) (kind.MissingRequiredArgument ∷ []) result (not_asked _ (λ e. cc) (λ e. cc)) (ap (λ w. fault_of program (name ∷ w)) e) reads
+gives_usage name words result reads (inr (inr (inr (inr (inr (inr (inr (inr (inr (inl e)))))))))) =
+    refused (name ∷ words) (kind.MissingRequiredArgument ∷ []) result (not_asked _ (λ e. cc) (λ e. cc)) (ap (λ w. fault_of program (name ∷ w)) e) reads
+gives_usage name words result reads (inr (inr (inr (inr (inr (inr (inr (inr (inr (inr e)))))))))) =
     refused (name ∷ words) (kind.MissingRequiredArgument ∷ []) result (not_asked _ (λ e. cc) (λ e. cc)) (ap (λ w. fault_of program (name ∷ w)) e) reads
 gives_usage name words result reads (inr (inr (inr (inr (inl e))))) =
     refused (name ∷ words) (kind.MissingRequiredArgument ∷ []) result (not_asked _ (λ e. cc) (λ e. cc)) (ap (λ w. fault_of program (name ∷ w)) e) reads

@@ -10,7 +10,7 @@ use Rattle.fax_text.specs.CommandLine.{AskForReplay, GivesReplay, IsPlainWord}
 use Rattle.fax_text.specs.Server.{files_in}
 use Rattle.fax_text.specs.Words.{Reads, program}
 use Rattle.fax_text.specs.declared.words.Plan.{Plan}
-use Rattle.fax_text.specs.declared.words.Plan.TheVariants.{Check, List as ListJobs, Replay, Serve, Sendfax, Import, Settings}
+use Rattle.fax_text.specs.declared.words.Plan.TheVariants.{Check, List as ListJobs, Replay, Serve, Sendfax, Import, Settings, Worker, Post}
 use Rattle.fax_text.specs.declared.words.WordsFault.{WordsFault}
 use Rattle.fax_text.specs.declared.words.WordsFault.TheVariants.{Help, Usage, NoMemory}
 
@@ -137,6 +137,16 @@ no_settings : (rows other : List Row) → ¬ (Some (codes "settings", rows) ≡ 
 unfolding name_in
 no_settings rows other e = let no : codes "settings" ≡ codes "replay" = ap name_in e in cc
 
+-- nor `worker`
+no_worker : (rows other : List Row) → ¬ (Some (codes "worker", rows) ≡ entered other)
+unfolding name_in
+no_worker rows other e = let no : slice_index_or (codes "worker") 0 0 ≡ slice_index_or (codes "replay") 0 0 = ap (λ found. slice_index_or (name_in found) 0 0) e in absurd (omega (arith, no))
+
+-- nor `post`
+no_post : (rows other : List Row) → ¬ (Some (codes "post", rows) ≡ entered other)
+unfolding name_in
+no_post rows other e = let no : codes "post" ≡ codes "replay" = ap name_in e in cc
+
 -- words of a replay give its plan
 given : (words : List Text) (setup controls : Option Text) (result : Result Plan WordsFault) → IsReplay words setup controls
     → Reads words result → GivesReplay setup controls result
@@ -146,6 +156,8 @@ given words setup controls (Ok (Check plan)) is reads = no_check reads.0.0 is.ro
 given words setup controls (Ok (Sendfax plan)) is reads = no_sendfax reads.0.0 is.rows (sym reads.0.1 ∙ is.command)
 given words setup controls (Ok (Import plan)) is reads = no_import reads.0.0 is.rows (sym reads.0.1 ∙ is.command)
 given words setup controls (Ok (Settings files)) is reads = no_settings reads.0.0 is.rows (sym reads.0.1 ∙ is.command)
+given words setup controls (Ok (Worker plan)) is reads = no_worker reads.0.0 is.rows (sym reads.0.1 ∙ is.command)
+given words setup controls (Ok (Post plan)) is reads = no_post reads.0.0 is.rows (sym reads.0.1 ∙ is.command)
 given words setup controls (Ok (Replay files)) is reads =
     reads.0.2 ∙ ap files_in (same_rows reads.0.0 is.rows (sym reads.0.1 ∙ is.command)) ∙ is.files
 given words setup controls (Err (Help text)) is reads = subst (IsAmong reads.0) is.faults reads.1

@@ -5,7 +5,7 @@ use Rattle.clap.specs.Faults.{fault_of}
 use Rattle.clap.specs.Simple.{subcommand_of}
 use Rattle.clap.specs.Walk.{Text, first_of}
 use Rattle.clap.specs.declared.error.kind.ErrorKind.TheVariants as kind
-use Rattle.fax_text.specs.Option.{moment_or_none, number_or}
+use Rattle.fax_text.specs.Option.{number_or_none, number_or}
 use Rattle.fax_text.specs.Words.{IsPlanOf, program}
 use Rattle.fax_text.specs.declared.words.Plan.TheVariants.{Check, List as ListJobs, Sendfax}
 use Rattle.fax_text.proofs.RowsSendfax.{of_desk, text}
@@ -22,7 +22,7 @@ desk_has_no_fault = refl
 
 -- they spell this plan
 desk_plan : IsPlanOf (subcommand_of program desk_words) (Sendfax of_desk)
-unfolding clap_on_literals number_or moment_or_none
+unfolding clap_on_literals number_or number_or_none
 desk_plan = (
   _,
   refl,
@@ -69,7 +69,7 @@ list_has_no_fault = refl
 
 -- and spell this plan
 list_plan : IsPlanOf (subcommand_of program list_words) (ListJobs (record { files = record { setup = None; controls = None }; database = text (codes "queue.db"); moment = Some 1000 }))
-unfolding clap_on_literals list_words moment_or_none
+unfolding clap_on_literals list_words number_or_none
 list_plan = (_, refl, record { files = refl; database = refl; moment = refl })
 
 -- a listing needs a database

@@ -4,7 +4,7 @@ use Rattle.clap.specs.Lexer.{strip_byte}
 use Rattle.clap.specs.Walk.{Text}
 use Rattle.fax_text.specs.Server.{file_names}
 use Rattle.fax_text.specs.declared.words.Plan.{Plan}
-use Rattle.fax_text.specs.declared.words.Plan.TheVariants.{Check, List as ListJobs, Replay, Serve, Sendfax, Import, Settings}
+use Rattle.fax_text.specs.declared.words.Plan.TheVariants.{Check, List as ListJobs, Replay, Serve, Sendfax, Import, Settings, Worker, Post}
 use Rattle.fax_text.specs.declared.words.WordsFault.{WordsFault}
 use Rattle.fax_text.specs.declared.words.WordsFault.TheVariants.{Help, Usage, NoMemory}
 
@@ -45,12 +45,15 @@ AskForHelp words =
     ⊎ (words ≡ codes "sendfax" ∷ codes "--help" ∷ []) ⊎ (words ≡ codes "sendfax" ∷ codes "-h" ∷ [])
     ⊎ (words ≡ codes "import" ∷ codes "--help" ∷ []) ⊎ (words ≡ codes "import" ∷ codes "-h" ∷ [])
     ⊎ (words ≡ codes "settings" ∷ codes "--help" ∷ []) ⊎ (words ≡ codes "settings" ∷ codes "-h" ∷ [])
+    ⊎ (words ≡ codes "worker" ∷ codes "--help" ∷ []) ⊎ (words ≡ codes "worker" ∷ codes "-h" ∷ [])
+    ⊎ (words ≡ codes "post" ∷ codes "--help" ∷ []) ⊎ (words ≡ codes "post" ∷ codes "-h" ∷ [])
 
 -- a word that names no command
 abbrev pub NamesNoCommand : Text → Type 0
 NamesNoCommand word =
     IsPlainWord word × ¬ (word ≡ codes "replay") × ¬ (word ≡ codes "serve") × ¬ (word ≡ codes "list") × ¬ (word ≡ codes "check")
-    × ¬ (word ≡ codes "sendfax") × ¬ (word ≡ codes "import") × ¬ (word ≡ codes "settings") × ¬ (word ≡ codes "help")
+    × ¬ (word ≡ codes "sendfax") × ¬ (word ≡ codes "import") × ¬ (word ≡ codes "settings") × ¬ (word ≡ codes "worker")
+    × ¬ (word ≡ codes "post") × ¬ (word ≡ codes "help")
 
 -- words that no command has: none, an unknown command, an option without its value, or a command without what it needs
 abbrev pub BreakTheUsage : List Text → Type 0
@@ -58,7 +61,7 @@ BreakTheUsage words =
     (words ≡ []) ⊎ ((word : Text) × (behind : List Text) × NamesNoCommand word × (words ≡ word ∷ behind))
     ⊎ (words ≡ codes "replay" ∷ codes "--setup" ∷ []) ⊎ (words ≡ codes "replay" ∷ codes "--controls" ∷ [])
     ⊎ (words ≡ codes "serve" ∷ []) ⊎ (words ≡ codes "list" ∷ []) ⊎ (words ≡ codes "check" ∷ [])
-    ⊎ (words ≡ codes "sendfax" ∷ []) ⊎ (words ≡ codes "import" ∷ [])
+    ⊎ (words ≡ codes "sendfax" ∷ []) ⊎ (words ≡ codes "import" ∷ []) ⊎ (words ≡ codes "worker" ∷ []) ⊎ (words ≡ codes "post" ∷ [])
 
 -- a plan with these files, unless memory ran out
 abbrev pub GivesReplay : Option Text → Option Text → Result Plan WordsFault → Type 0
@@ -69,6 +72,8 @@ GivesReplay setup controls (Ok (Check plan)) = ⊥
 GivesReplay setup controls (Ok (Sendfax plan)) = ⊥
 GivesReplay setup controls (Ok (Import plan)) = ⊥
 GivesReplay setup controls (Ok (Settings files)) = ⊥
+GivesReplay setup controls (Ok (Worker plan)) = ⊥
+GivesReplay setup controls (Ok (Post plan)) = ⊥
 GivesReplay setup controls (Err (Help text)) = ⊥
 GivesReplay setup controls (Err (Usage text)) = ⊥
 GivesReplay setup controls (Err NoMemory) = ⊤

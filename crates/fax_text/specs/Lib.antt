@@ -4,6 +4,7 @@ pub mod Column
 pub mod CommandLine
 pub mod Import
 pub mod ImportWords
+pub mod ClientWords
 pub mod ListWords
 pub mod Listing
 pub mod Misuse

@@ -1,7 +1,7 @@
 -- What is wrong with the options of a command.
 use Rattle.std.specs.Prelude.{◌≡◌, ◌⊎◌, ℕ, List, ◌++◌, codes, Option, Some, None, option_and_then, ⊤}
 use Rattle.clap.specs.Walk.{Row, Text, all_of, first_of}
-use Rattle.fax_text.specs.Option.{moment_or_none, number_from, number_or}
+use Rattle.fax_text.specs.Option.{number_or_none, number_from, number_or}
 use Rattle.fax_text.specs.declared.words.Misuse.{Misuse}
 use Rattle.fax_text.specs.declared.words.Misuse.TheVariants as misuse
 
@@ -21,6 +21,10 @@ misuse_text misuse.Dials = codes "-T wants a number from 1 to 1000"
 misuse_text misuse.Moment = codes "--moment wants a number of 1 to 18 digits"
 misuse_text misuse.Client = codes "--client is missing"
 misuse_text misuse.File = codes "FILE is missing"
+misuse_text misuse.To = codes "--to is missing"
+misuse_text misuse.Journal = codes "--journal is missing"
+misuse_text misuse.Wait = codes "--wait wants a number of 1 to 18 digits"
+misuse_text misuse.Word = codes "the action is missing"
 misuse_text misuse.NoMemory = codes "no memory"
 
 -- the line that tells it
@@ -40,9 +44,13 @@ IsMisuse rows misuse.Request = first_of (codes "request") rows ≡ None
 IsMisuse rows misuse.Priority = number_or 127 0 255 (first_of (codes "priority") rows) ≡ None
 IsMisuse rows misuse.Tries = number_or 3 1 1000 (first_of (codes "tries") rows) ≡ None
 IsMisuse rows misuse.Dials = number_or 12 1 1000 (first_of (codes "dials") rows) ≡ None
-IsMisuse rows misuse.Moment = moment_or_none (first_of (codes "moment") rows) ≡ None
+IsMisuse rows misuse.Moment = number_or_none (first_of (codes "moment") rows) ≡ None
 IsMisuse rows misuse.Client = first_of (codes "client") rows ≡ None
 IsMisuse rows misuse.File = all_of (codes "file") rows ≡ None
+IsMisuse rows misuse.To = first_of (codes "to") rows ≡ None
+IsMisuse rows misuse.Journal = first_of (codes "journal") rows ≡ None
+IsMisuse rows misuse.Wait = number_or_none (first_of (codes "wait") rows) ≡ None
+IsMisuse rows misuse.Word = all_of (codes "word") rows ≡ None
 IsMisuse rows misuse.NoMemory = ⊤
 
 -- no command was named
@@ -54,6 +62,8 @@ pub record IsNoCommand (found : Option (Text × List Row)) : Type 0 where
   pub sendfax : (rows : List Row) → ¬ (found ≡ Some (codes "sendfax", rows))
   pub import : (rows : List Row) → ¬ (found ≡ Some (codes "import", rows))
   pub settings : (rows : List Row) → ¬ (found ≡ Some (codes "settings", rows))
+  pub worker : (rows : List Row) → ¬ (found ≡ Some (codes "worker", rows))
+  pub post : (rows : List Row) → ¬ (found ≡ Some (codes "post", rows))
 
 -- it is wrong with what was found: no command was named, or one with such options
 abbrev pub IsMisuseOf : Option (Text × List Row) → Misuse → Type 0

@@ -26,7 +26,7 @@ unfoldable pub number_or : ℕ → ℕ → ℕ → Option Text → Option ℕ
 number_or default least greatest None = Some default
 number_or default least greatest (Some text) = number_from least greatest text
 
--- the moment may be missing
-unfoldable pub moment_or_none : Option Text → Option (Option ℕ)
-moment_or_none None = Some None
-moment_or_none (Some text) = option_map (λ seconds. Some seconds) (number_of text)
+-- the number of an option that may be missing
+unfoldable pub number_or_none : Option Text → Option (Option ℕ)
+number_or_none None = Some None
+number_or_none (Some text) = option_map (λ seconds. Some seconds) (number_of text)

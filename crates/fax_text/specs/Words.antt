@@ -8,20 +8,23 @@ use Rattle.clap.specs.Walk.{Row, Text, first_of}
 use Rattle.clap.specs.declared.error.kind.ErrorKind.{ErrorKind}
 use Rattle.clap.specs.declared.error.kind.ErrorKind.TheVariants.{DisplayHelp, DisplayVersion, OutOfMemory}
 use Rattle.fax_text.specs.declared.check_words.CheckPlan.{CheckPlan}
+use Rattle.fax_text.specs.declared.client_words.PostPlan.{PostPlan}
+use Rattle.fax_text.specs.declared.client_words.WorkerPlan.{WorkerPlan}
 use Rattle.fax_text.specs.declared.import_words.ImportPlan.{ImportPlan}
 use Rattle.fax_text.specs.declared.list_words.ListPlan.{ListPlan}
 use Rattle.fax_text.specs.declared.sendfax.SendPlan.{SendPlan}
 use Rattle.fax_text.specs.declared.server.ServePlan.{ServePlan}
 use Rattle.fax_text.specs.CheckWords.{IsCheckPlan, check_command}
+use Rattle.fax_text.specs.ClientWords.{IsPostPlan, IsWorkerPlan, post_command, worker_command}
 use Rattle.fax_text.specs.ImportWords.{IsImportPlan, import_command}
 use Rattle.fax_text.specs.ListWords.{IsListPlan, list_command}
 use Rattle.fax_text.specs.Misuse.{IsMisuseOf, usage_line}
-use Rattle.fax_text.specs.Option.{long_option, moment_or_none, number_from, number_or, required, short_option}
+use Rattle.fax_text.specs.Option.{long_option, number_or_none, number_from, number_or, required, short_option}
 use Rattle.fax_text.specs.Server.{IsServePlan, file_names, files_in, replay_command, serve_command, settings_command}
 use Rattle.fax_text.specs.declared.words.Misuse.{Misuse}
 use Rattle.fax_text.specs.declared.words.Misuse.TheVariants as misuse
 use Rattle.fax_text.specs.declared.words.Plan.{Plan}
-use Rattle.fax_text.specs.declared.words.Plan.TheVariants.{Check, List as ListJobs, Replay, Serve, Sendfax, Import, Settings}
+use Rattle.fax_text.specs.declared.words.Plan.TheVariants.{Check, List as ListJobs, Replay, Serve, Sendfax, Import, Settings, Worker, Post}
 use Rattle.fax_text.specs.declared.words.WordsFault.{WordsFault}
 use Rattle.fax_text.specs.declared.words.WordsFault.TheVariants.{Help, Usage, NoMemory}
 
@@ -49,8 +52,8 @@ sendfax_command = with_request (with_times (with_limits (with_fax (new_app (code
 -- `faxqd COMMAND`
 abbrev pub program : App
 program =
-    with_subcommand (with_subcommand (with_subcommand (with_subcommand (with_subcommand (with_subcommand (with_subcommand (on_top (λ s. record s { subcommand_required = true; has_version = true }) (new_app (codes "faxqd")))
-    replay_command.top) serve_command.top) list_command.top) check_command.top) sendfax_command.top) import_command.top) settings_command.top
+    with_subcommand (with_subcommand (with_subcommand (with_subcommand (with_subcommand (with_subcommand (with_subcommand (with_subcommand (with_subcommand (on_top (λ s. record s { subcommand_required = true; has_version = true }) (new_app (codes "faxqd")))
+    replay_command.top) serve_command.top) list_command.top) check_command.top) sendfax_command.top) import_command.top) settings_command.top) worker_command.top) post_command.top
 
 -- ---- what the words ask for
 
@@ -66,7 +69,7 @@ pub record IsSendPlan (rows : List Row) (plan : SendPlan) : Type 0 where
   pub at : first_of (codes "at") rows ≡ option_copied plan.at
   pub kill : first_of (codes "kill") rows ≡ option_copied plan.kill
   pub tag : first_of (codes "tag") rows ≡ option_copied plan.tag
-  pub moment : moment_or_none (first_of (codes "moment") rows) ≡ Some plan.moment
+  pub moment : number_or_none (first_of (codes "moment") rows) ≡ Some plan.moment
   pub to : first_of (codes "to") rows ≡ option_copied plan.to
 
 -- the plan of a command and its options
@@ -78,6 +81,8 @@ IsPlanOf found (Check plan) = (rows : List Row) × (found ≡ Some (codes "check
 IsPlanOf found (Sendfax plan) = (rows : List Row) × (found ≡ Some (codes "sendfax", rows)) × IsSendPlan rows plan
 IsPlanOf found (Import plan) = (rows : List Row) × (found ≡ Some (codes "import", rows)) × IsImportPlan rows plan
 IsPlanOf found (Settings files) = (rows : List Row) × (found ≡ Some (codes "settings", rows)) × (file_names files ≡ files_in rows)
+IsPlanOf found (Worker plan) = (rows : List Row) × (found ≡ Some (codes "worker", rows)) × IsWorkerPlan rows plan
+IsPlanOf found (Post plan) = (rows : List Row) × (found ≡ Some (codes "post", rows)) × IsPostPlan rows plan
 
 -- No plan has what they say. Whatever the options of `replay` and of `settings` say, there is one.
 pub record IsNoPlan (found : Option (Text × List Row)) : Type 0 where
@@ -88,6 +93,8 @@ pub record IsNoPlan (found : Option (Text × List Row)) : Type 0 where
   pub sendfax : (plan : SendPlan) → ¬ (IsPlanOf found (Sendfax plan))
   pub import : (plan : ImportPlan) → ¬ (IsPlanOf found (Import plan))
   pub settings : (rows : List Row) → ¬ (found ≡ Some (codes "settings", rows))
+  pub worker : (plan : WorkerPlan) → ¬ (IsPlanOf found (Worker plan))
+  pub post : (plan : PostPlan) → ¬ (IsPlanOf found (Post plan))
 
 -- text that is asked for, and no fault
 abbrev pub IsAsked : ErrorKind → Type 0

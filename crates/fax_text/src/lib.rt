@@ -4,6 +4,7 @@
 #![tactic(auto)]
 
 mod check_words;
+mod client_words;
 mod column;
 mod import;
 mod import_words;
@@ -18,6 +19,7 @@ mod times;
 mod words;
 
 pub use check_words::CheckPlan;
+pub use client_words::{Journaled, PostPlan, WorkerPlan};
 pub use import::{ImportFault, first_number, import_request};
 pub use import_words::ImportPlan;
 pub use list_words::ListPlan;

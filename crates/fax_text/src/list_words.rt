@@ -8,7 +8,7 @@ ghost use Rattle.fax_text.specs.ListWords.{IsListPlan, list_command};
 ghost use Rattle.fax_text.specs.Misuse.{IsMisuse};
 
 use crate::server::{OfficeFiles, files_in, with_files};
-use crate::words::{Misuse, long_option, moment_in, text_of};
+use crate::words::{Misuse, long_option, number_or_none, text_of};
 use clap::{ArgMatches, Command};
 use std::alloc::{AllocError, Global};
 
@@ -34,7 +34,7 @@ pub(crate) fn list_plan_in<'a>(options: &ArgMatches<'a>) -> Result<ListPlan<'a>,
     let Some(database) = text_of(options, "db") else {
         return Err(Misuse::Database);
     };
-    let Some(moment) = moment_in(options) else {
+    let Some(moment) = number_or_none(options, "moment") else {
         return Err(Misuse::Moment);
     };
     Ok(ListPlan {

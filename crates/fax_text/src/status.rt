@@ -9,6 +9,8 @@ pub enum Status {
     Usage = 2,
     /// All is done, and something that was read isn't used.
     Unused = 3,
+    /// No answer has come yet. The same command goes on where this one stopped.
+    Later = 4,
 }
 
 impl From<Status> for ExitCode {

@@ -7,10 +7,13 @@ ghost use Rattle.clap.specs.declared.builder.command.Command.TheViews.{out-Comma
 ghost use Rattle.fax_text.specs.declared.sendfax.SendPlan.{SendPlan};
 ghost use Rattle.fax_text.specs.CommandLine.{IsFixed};
 ghost use Rattle.fax_text.specs.Misuse.{IsMisuse, IsMisuseOf, misuse_text};
-ghost use Rattle.fax_text.specs.Option.{long_option, moment_or_none, number_from, number_or, short_option};
+ghost use Rattle.fax_text.specs.Option.{long_option, number_or_none, number_from, number_or, short_option};
 ghost use Rattle.fax_text.specs.Words.{IsNoPlan, IsPlanOf, IsSendPlan, Reads, TellsKind, TellsMisuse, program, sendfax_command, with_fax, with_limits, with_request, with_times};
 
 use crate::check_words::{CHECK, CheckPlan, check_command, check_plan_in};
+use crate::client_words::{
+    POST, PostPlan, WORKER, WorkerPlan, post_command, post_plan_in, worker_command, worker_plan_in,
+};
 use crate::import_words::{IMPORT, ImportPlan, import_command, import_plan_in};
 use crate::list_words::{LIST, ListPlan, list_command, list_plan_in};
 use crate::sendfax::SendPlan;
@@ -46,6 +49,10 @@ pub enum Plan<'a> {
     Import(ImportPlan<'a>),
     /// Print what these files mean.
     Settings(OfficeFiles<'a>),
+    /// Act for a modem.
+    Worker(WorkerPlan<'a>),
+    /// Post a request.
+    Post(PostPlan<'a>),
 }
 
 /// Why words ask for no command.
@@ -86,6 +93,10 @@ pub(crate) enum Misuse {
     Moment,
     Client,
     File,
+    To,
+    Journal,
+    Wait,
+    Word,
     NoMemory,
 }
 
@@ -121,6 +132,10 @@ impl Misuse {
             Misuse::Moment => "--moment wants a number of 1 to 18 digits",
             Misuse::Client => "--client is missing",
             Misuse::File => "FILE is missing",
+            Misuse::To => "--to is missing",
+            Misuse::Journal => "--journal is missing",
+            Misuse::Wait => "--wait wants a number of 1 to 18 digits",
+            Misuse::Word => "the action is missing",
             Misuse::NoMemory => "no memory",
         }
     }
@@ -172,6 +187,12 @@ fn plan_in<'a>(alloc: Global, matches: &ArgMatches<'a>) -> Result<Plan<'a>, Misu
     if let Some(options) = matches.subcommand_matches(SETTINGS) {
         return Ok(Plan::Settings(files_in(options)));
     }
+    if let Some(options) = matches.subcommand_matches(WORKER) {
+        return Ok(Plan::Worker(worker_plan_in(alloc, options)?));
+    }
+    if let Some(options) = matches.subcommand_matches(POST) {
+        return Ok(Plan::Post(post_plan_in(alloc, options)?));
+    }
     Err(Misuse::Command)
 }
 
@@ -201,7 +222,7 @@ fn send_plan_in<'a>(options: &ArgMatches<'a>) -> Result<SendPlan<'a>, Misuse>
     let Some(dials) = number_or(options, "dials", 12, 1, 1000) else {
         return Err(Misuse::Dials);
     };
-    let Some(moment) = moment_in(options) else {
+    let Some(moment) = number_or_none(options, "moment") else {
         return Err(Misuse::Moment);
     };
     Ok(SendPlan {
@@ -265,12 +286,12 @@ fn number_from(least: u16, greatest: u16, text: &str) -> Option<u16>
     }
 }
 
-/// The moment, which may be missing.
-#[tactic(auto, unfolding(crate::specs::Option::moment_or_none))]
-pub(crate) fn moment_in(options: &ArgMatches<'_>) -> Option<Option<u64>>
-    ensures { result ≡ moment_or_none (first_of (codes "moment") (rows_of (found_of options.now))) }
+/// The number of an option, which may be missing.
+#[tactic(auto, unfolding(crate::specs::Option::number_or_none))]
+pub(crate) fn number_or_none(options: &ArgMatches<'_>, option: &str) -> Option<Option<u64>>
+    ensures { result ≡ number_or_none (first_of option.now (rows_of (found_of options.now))) }
 {
-    match text_of(options, "moment") {
+    match text_of(options, option) {
         Some(text) => Some(Some(read_number(text.as_bytes())?)),
         None => Some(None),
     }
@@ -293,7 +314,9 @@ fn command<'a>(alloc: Global) -> Result<Command<'a>, AllocError>
     let program = with_command(program, check_command(alloc))?;
     let program = with_command(program, sendfax_command(alloc))?;
     let program = with_command(program, import_command(alloc))?;
-    with_command(program, settings_command(alloc))
+    let program = with_command(program, settings_command(alloc))?;
+    let program = with_command(program, worker_command(alloc))?;
+    with_command(program, post_command(alloc))
 }
 
 /// Adds a command, unless memory ran out for it.

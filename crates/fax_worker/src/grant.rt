@@ -54,6 +54,13 @@ impl Handed {
             to: to as u16,
         })
     }
+
+    /// The grant's number.
+    pub fn grant(&self) -> u32
+        ensures { result ≡ self.now.grant }
+    {
+        self.grant
+    }
 }
 
 fn is_handed(grant: u64, job: u64, from: u64, to: u64) -> bool

@@ -16,6 +16,7 @@ mod worker;
 pub use answer::{Answer, Look};
 pub use grant::{Handed, Held};
 pub use pending::Pending;
+pub use reading::read_refusal;
 pub use reason::Reason;
 pub use saying::{Said, call_word};
 pub use worker::{Action, NotNow, Worker};

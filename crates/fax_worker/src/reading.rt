@@ -3,7 +3,7 @@
 //! A reply is the queue's answer only if its status and its JSON (RFC 8259) are those that the queue has for the request.
 //! Anything else, such as a proxy's page or half a reply, is no answer.
 
-ghost use Rattle.std.specs.Prelude.{◌≡◌, ◌≤◌, IfOk, IfSome, Some, option_and_then};
+ghost use Rattle.std.specs.Prelude.{◌≡◌, ◌≤◌, IfOk, IfSome, Option, Some, option_and_then};
 ghost use Rattle.std.specs.Option.{option_copied, option_map};
 ghost use Rattle.fax_value.specs.Limits.{most_pages};
 ghost use Rattle.fax_ask.specs.Report.{bool_at, number_at, text_at, within};
@@ -13,6 +13,7 @@ ghost use Rattle.fax_worker.specs.Join.{response_of};
 ghost use Rattle.fax_worker.specs.Replies.{IsAnswerTo, IsWritable};
 ghost use Rattle.fax_worker.specs.Reading.{IsJsonIfSome, IsRead, answer_in, bad_body_in, called_in, confirmed_in, denied_in, floored_in, handed_in, handed_of, held_in, is_stated, is_zero, npages_in, parts_in, refusal_in, refusal_stated, reply_in, report_reply_in, stands_in, work_in};
 ghost use Rattle.fax_job.specs.declared.refusal.Refusal.TheVariants.{ModemBusy, PageOrder, Rejected};
+ghost use Rattle.serde_json.specs.Data.{Data};
 ghost use Rattle.serde_json.specs.Errors.{IsMemory};
 ghost use Rattle.serde_json.specs.Find.{get};
 ghost use Rattle.serde_json.specs.View.{view};
@@ -92,6 +93,18 @@ impl Pending {
             → IsAnswerTo self.now.ask answer × (status ≡ (response_of answer).status)) }
     {
         read(alloc, self.ask(), status, body)
+    }
+}
+
+/// The refusal that a reply of this status and body states, if it is one of those that are answers. The only error is out
+/// of memory.
+pub fn read_refusal(alloc: Global, status: u16, body: &[u8]) -> Result<Option<Refusal>, AllocError>
+    ensures { IfOk result (λ read. (json : Option Data) × IsJsonIfSome body.now json
+        × (read ≡ option_and_then (refusal_in status) json)) }
+{
+    match read_json(alloc, body)? {
+        Some(json) => Ok(refusal_in(status, &json)),
+        None => Ok(None),
     }
 }
 

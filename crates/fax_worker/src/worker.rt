@@ -120,6 +120,23 @@ impl Worker {
         self.last
     }
 
+    /// What it is made of: name, last number, unanswered request and grant.
+    pub fn into_parts(self) -> (Name, RequestNumber, Option<Pending>, Option<Held>)
+        ensures client { result.0 ≡ self.client }
+        ensures last { result.1 ≡ self.last }
+        ensures unanswered { result.2 ≡ self.unanswered }
+        ensures held { result.3 ≡ self.held }
+        ensures steady { AreSteady self.unanswered self.held }
+    {
+        let Worker {
+            client,
+            last,
+            unanswered,
+            held,
+        } = self;
+        (client, last, unanswered, held)
+    }
+
     /// Begins the request of an action under a new number: it is the unanswered one from now on.
     ///
     /// # Errors

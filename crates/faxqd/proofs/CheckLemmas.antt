@@ -18,7 +18,7 @@ use Rattle.fax_core.specs.Queue.{Queue, empty_queue}
 use Rattle.fax_files.specs.Database.{IsFound}
 use Rattle.fax_http.specs.Device.{Put}
 use Rattle.fax_http.specs.declared.device.Watched.{Watched}
-use Rattle.fax_schema.specs.ByRowid.{IsByRowid}
+use Rattle.fax_layout.specs.ByRowid.{IsByRowid}
 use Rattle.fax_schema.specs.Schema.{AreOurs, meta_tree}
 use Rattle.fax_store.specs.Adopt.{HasTaken, IsOurs, IsTaken}
 use Rattle.fax_store.specs.Store.{Means, Serves}
@@ -26,7 +26,7 @@ use Rattle.fax_tables.specs.Row.{number, raised}
 use Rattle.fax_tables.specs.Tables.{RowsMean, TablesMean, meta_as, version_of}
 use Rattle.fax_tables.specs.declared.fault.StoreFault.{StoreFault}
 use Rattle.fax_text.specs.declared.status.Status.{Status}
-use Rattle.fax_text.specs.declared.status.Status.TheVariants.{Success, Fault, Usage, Unused}
+use Rattle.fax_text.specs.declared.status.Status.TheVariants.{Success, Fault, Usage, Unused, Later}
 use Rattle.faxqd.specs.Check.{Checks, ChecksBy, HasNoDatabase, IsTrueOf, IsVerdictOn, MeanSound, Prints, StandByRowid, sound_line}
 
 -- ---- rows that were taken
@@ -134,11 +134,18 @@ module _ {W : Type 0} (contents : W → Option (List ℕ)) (out out₂ : Watched
   all_used (Ok (Some flaw)) line prints = prints
   all_used (Err fault) line prints = prints
 
+  -- nor is there anything to wait for
+  never_later : (verdict : Result (Option Flaw) StoreFault) (line : List ℕ) → Prints contents out out₂ verdict Later line → ⊥
+  never_later (Ok None) line prints = prints
+  never_later (Ok (Some flaw)) line prints = prints
+  never_later (Err fault) line prints = prints
+
   checks_of : (status : Status) (line : List ℕ) (new : State) → ChecksBy contents out out₂ image status line new → Checks contents out out₂ status line
   checks_of Success line new by = well by.verdict line by.prints
   checks_of Fault line new by = inr (by.verdict, by.prints)
   checks_of Usage line new by = no_usage by.verdict line by.prints
   checks_of Unused line new by = all_used by.verdict line by.prints
+  checks_of Later line new by = never_later by.verdict line by.prints
 
   -- however it ends, that is its end
   pub checks_with : {Q : Type 0} (state_of : Q → State) (status : Status) (line : List ℕ) (left : Option Q)

@@ -20,7 +20,7 @@ use Rattle.faxqd.specs.NoQueue.{HasNoQueue}
 use Rattle.faxqd.specs.List.{IsHeldIn, IsReply, IsSeen, Lists, ListsBy, Shows}
 use Rattle.fax_files.specs.Office.{ComesOf}
 use Rattle.fax_text.specs.declared.status.Status.{Status}
-use Rattle.fax_text.specs.declared.status.Status.TheVariants.{Success, Fault, Usage, Unused}
+use Rattle.fax_text.specs.declared.status.Status.TheVariants.{Success, Fault, Usage, Unused, Later}
 
 -- a reply is seen where the rows stay, and it is that of each sound queue that they mean
 pub is_seen : (s : Settings) (moment : ℕ) (old new : State) (reply : Response) → Stays old new → (HasCleanDisk new → HasCleanDisk old)
@@ -63,6 +63,7 @@ module _ {W : Type 0} (contents : W → Option (List ℕ)) (out out₂ : Watched
   lists_of Fault line office new by = inr (by.reply, by.prints)
   lists_of Usage line office new by = absurd by.prints
   lists_of Unused line office new by = absurd by.prints
+  lists_of Later line office new by = absurd by.prints
 
   -- where no queue was there, it ends with a fault
   no_listing : (status : Status) (line : List ℕ) → status ≡ Fault → out₂ ≡ out → HasNoQueue plan.files line → Lists contents out out₂ plan status line

@@ -22,7 +22,7 @@ use Rattle.fax_run.specs.Sessions.{Follow, Session, session_of}
 use Rattle.fax_once.specs.Ran.{LeftBySession}
 use Rattle.fax_schema.specs.Schema.{AreOurs}
 use Rattle.fax_store.proofs.AdoptLemmas.{means_rows}
-use Rattle.fax_tables.proofs.TablesLemmas.{same_database}
+use Rattle.fax_layout.proofs.DatabaseLemmas.{same_database}
 use Rattle.fax_tables.specs.Tables.{RowsMean}
 use Rattle.faxqd.specs.Restarts.{AreOf, HaveNone, HaveOneHistory, HaveTables, HoldStart, IsOf, LeadOn, LeadsFrom, LeavesFiles, RestartsHaveOneHistory}
 use Rattle.faxqd.specs.Serve.{HasServed, IsFoundAs, ServesHeld}

@@ -20,7 +20,7 @@ use Rattle.fax_run.specs.Run.{Start}
 use Rattle.fax_store.specs.Adopt.{Adopts, IsOurs}
 use Rattle.fax_store.specs.Store.{LeavesAlone, Means}
 use Rattle.fax_schema.specs.Schema.{AreOurs, no_tables}
-use Rattle.fax_schema.proofs.RowsLemmas.{not_ours}
+use Rattle.fax_schema.proofs.OursLemmas.{not_ours}
 use Rattle.fax_files.specs.Database.{IsFound}
 use Rattle.fax_files.specs.Office.{ComesOf}
 use Rattle.fax_net.specs.History.{Step}
@@ -29,7 +29,7 @@ use Rattle.fax_net.specs.declared.sockets.Sockets.{Sockets}
 use Rattle.faxqd.specs.NoQueue.{HasNoQueue}
 use Rattle.faxqd.specs.Serve.{Ends, HasServed, IsFoundAs, ServesBy, ServesHeld}
 use Rattle.fax_text.specs.declared.status.Status.{Status}
-use Rattle.fax_text.specs.declared.status.Status.TheVariants.{Success, Fault, Usage, Unused}
+use Rattle.fax_text.specs.declared.status.Status.TheVariants.{Success, Fault, Usage, Unused, Later}
 use Rattle.fax_text.specs.declared.server.ServePlan.{ServePlan}
 
 -- ---- what was found
@@ -103,6 +103,7 @@ module _ {W : Type 0} (contents : W → Option (List ℕ)) (out out₂ : Watched
   ]
   ends_by Usage line office new shut by = absurd by.told
   ends_by Unused line office new shut by = absurd by.told
+  ends_by Later line office new shut by = absurd by.told
 
   -- where no queue was there, it ends with a fault
   no_queue : (status : Status) (line : List ℕ) → status ≡ Fault → out₂ ≡ out → HasNoQueue plan.files line → Ends contents out out₂ plan status line

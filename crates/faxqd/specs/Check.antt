@@ -15,13 +15,13 @@ use Rattle.fax_files.specs.FaultLine.{open_line}
 use Rattle.fax_files.specs.declared.database.OpenFault.{OpenFault}
 use Rattle.fax_http.specs.Device.{BrokeOff, Put}
 use Rattle.fax_http.specs.declared.device.Watched.{Watched}
-use Rattle.fax_schema.specs.ByRowid.{IsByRowid}
+use Rattle.fax_layout.specs.ByRowid.{IsByRowid}
 use Rattle.fax_schema.specs.Schema.{grants_tree, jobs_tree, meta_tree, no_tables}
 use Rattle.fax_store.specs.Adopt.{IsOurs}
 use Rattle.fax_tables.specs.Tables.{AreByRowid, RowsMean}
 use Rattle.fax_tables.specs.declared.fault.StoreFault.{StoreFault}
 use Rattle.fax_text.specs.declared.status.Status.{Status}
-use Rattle.fax_text.specs.declared.status.Status.TheVariants.{Success, Fault, Usage, Unused}
+use Rattle.fax_text.specs.declared.status.Status.TheVariants.{Success, Fault, Usage, Unused, Later}
 
 -- ---- what is told
 
@@ -87,3 +87,4 @@ module _ {W : Type 0} (contents : W → Option (List ℕ)) (out out₂ : Watched
   Checks Fault line = ((out₂ ≡ out) × HasNoDatabase line) ⊎ ((verdict : Result (Option Flaw) StoreFault) × Prints verdict Fault line)
   Checks Usage line = ⊥
   Checks Unused line = ⊥
+  Checks Later line = ⊥

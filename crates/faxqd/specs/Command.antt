@@ -3,6 +3,7 @@ use Rattle.std.specs.Prelude.{◌≡◌, ℕ, false, List, [], ◌∷◌, codes,
 use Rattle.fax_http.specs.Device.{BrokeOff, Put}
 use Rattle.fax_http.specs.declared.device.Watched.{Watched}
 use Rattle.faxqd.specs.Check.{Checks}
+use Rattle.faxqd.specs.Client.{Answers}
 use Rattle.faxqd.specs.Import.{Imports}
 use Rattle.faxqd.specs.List.{Lists}
 use Rattle.faxqd.specs.Replay.{Ends}
@@ -14,9 +15,9 @@ use Rattle.fax_text.specs.CommandLine.{IsFixed}
 use Rattle.fax_ending.specs.Ending.{no_memory, write_failed}
 use Rattle.fax_text.specs.Words.{Reads}
 use Rattle.fax_text.specs.declared.status.Status.{Status}
-use Rattle.fax_text.specs.declared.status.Status.TheVariants.{Success, Fault, Usage as Misused, Unused}
+use Rattle.fax_text.specs.declared.status.Status.TheVariants.{Success, Fault, Usage as Misused, Unused, Later}
 use Rattle.fax_text.specs.declared.words.Plan.{Plan}
-use Rattle.fax_text.specs.declared.words.Plan.TheVariants.{Check, Replay, Serve, List as ListJobs, Sendfax, Import, Settings}
+use Rattle.fax_text.specs.declared.words.Plan.TheVariants.{Check, Replay, Serve, List as ListJobs, Sendfax, Import, Settings, Worker, Post}
 use Rattle.fax_text.specs.declared.words.WordsFault.{WordsFault}
 use Rattle.fax_text.specs.declared.words.WordsFault.TheVariants.{Help, Usage, NoMemory}
 
@@ -31,14 +32,17 @@ module _ {W E : Type 0} (contents : W → Option (List ℕ)) (says : E → Optio
   Tells (Help text) Fault = BrokeOff contents out out₂ (string_bytes text) × Says says err err₂ write_failed
   Tells (Help text) Misused = ⊥
   Tells (Help text) Unused = ⊥
+  Tells (Help text) Later = ⊥
   Tells (Usage text) Success = ⊥
   Tells (Usage text) Fault = ⊥
   Tells (Usage text) Misused = (out₂ ≡ out) × Says says err err₂ (string_bytes text)
   Tells (Usage text) Unused = ⊥
+  Tells (Usage text) Later = ⊥
   Tells NoMemory Success = ⊥
   Tells NoMemory Fault = (out₂ ≡ out) × Says says err err₂ no_memory
   Tells NoMemory Misused = ⊥
   Tells NoMemory Unused = ⊥
+  Tells NoMemory Later = ⊥
 
 module _ {R W : Type 0} (remaining : R → Option (List ℕ)) (contents : W → Option (List ℕ))
     (reader reader₂ : Watched R) (out out₂ : Watched W) where
@@ -51,6 +55,8 @@ module _ {R W : Type 0} (remaining : R → Option (List ℕ)) (contents : W → 
   CarriesOut (Sendfax plan) status line = (reader₂ ≡ reader) × Hands contents out out₂ plan status line
   CarriesOut (Import plan) status line = (reader₂ ≡ reader) × Imports contents out out₂ plan status line
   CarriesOut (Settings files) status line = (reader₂ ≡ reader) × ShowsSettings contents out out₂ files status line
+  CarriesOut (Worker plan) status line = (reader₂ ≡ reader) × Answers contents out out₂ status line
+  CarriesOut (Post plan) status line = (reader₂ ≡ reader) × Answers contents out out₂ status line
 
   module _ {E : Type 0} (says : E → Option (List ℕ)) (err err₂ : Watched E) where
     -- a plan is carried out, and the line is said that this ends with, if there is one

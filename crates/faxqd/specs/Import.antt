@@ -10,7 +10,7 @@ use Rattle.fax_text.specs.Import.{first_number}
 use Rattle.fax_text.specs.declared.import.ImportFault.{ImportFault}
 use Rattle.fax_text.specs.declared.import_words.ImportPlan.{ImportPlan}
 use Rattle.fax_text.specs.declared.status.Status.{Status}
-use Rattle.fax_text.specs.declared.status.Status.TheVariants.{Success, Fault, Usage, Unused}
+use Rattle.fax_text.specs.declared.status.Status.TheVariants.{Success, Fault, Usage, Unused, Later}
 
 -- the imports of the plan's files, one for each, from its number on
 abbrev pub AreItsImports : ImportPlan → List ℕ → Type 0
@@ -25,3 +25,4 @@ module _ {W : Type 0} (contents : W → Option (List ℕ)) (out out₂ : Watched
       ⊎ ((text : List ℕ) × AreItsImports plan text × BrokeOff contents out out₂ text × (line ≡ write_failed))
   Imports plan Usage line = (out₂ ≡ out) × (fault : ImportFault) × (first_number plan ≡ Err fault) × (line ≡ words_line fault)
   Imports plan Unused line = ⊥
+  Imports plan Later line = ⊥

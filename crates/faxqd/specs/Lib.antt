@@ -1,4 +1,5 @@
 pub mod Check
+pub mod Client
 pub mod Command
 pub mod Import
 pub mod List

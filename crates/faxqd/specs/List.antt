@@ -25,7 +25,7 @@ use Rattle.fax_files.specs.Office.{ComesOf}
 use Rattle.faxqd.specs.NoQueue.{HasNoQueue}
 use Rattle.fax_ending.specs.Ending.{no_database, write_failed}
 use Rattle.fax_text.specs.declared.status.Status.{Status}
-use Rattle.fax_text.specs.declared.status.Status.TheVariants.{Success, Fault, Usage, Unused}
+use Rattle.fax_text.specs.declared.status.Status.TheVariants.{Success, Fault, Usage, Unused, Later}
 use Rattle.fax_text.specs.declared.list_words.ListPlan.{ListPlan}
 
 -- the queue's reply to GET of /jobs at that moment
@@ -56,6 +56,7 @@ module _ {W : Type 0} (contents : W → Option (List ℕ)) (out out₂ : Watched
       (¬ (reply.status ≡ 200) × (out₂ ≡ out) × (line ≡ no_database)) ⊎ ((reply.status ≡ 200) × BrokeOff contents out out₂ reply.body × (line ≡ write_failed))
   Prints reply Usage line = ⊥
   Prints reply Unused line = ⊥
+  Prints reply Later line = ⊥
 
   -- what the queue replies is printed
   abbrev pub Shows : Settings → ℕ → State → State → Status → List ℕ → Type 0
@@ -76,3 +77,4 @@ module _ {W : Type 0} (contents : W → Option (List ℕ)) (out out₂ : Watched
   Lists plan Fault line = ((out₂ ≡ out) × HasNoQueue plan.files line) ⊎ ((reply : Response) × Prints reply Fault line)
   Lists plan Usage line = ⊥
   Lists plan Unused line = ⊥
+  Lists plan Later line = ⊥

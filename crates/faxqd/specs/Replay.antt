@@ -11,7 +11,7 @@ use Rattle.fax_files.specs.declared.office.OfficeFault.{OfficeFault}
 use Rattle.fax_ending.specs.Ending.{no_memory, write_failed}
 use Rattle.fax_text.specs.declared.server.OfficeFiles.{OfficeFiles}
 use Rattle.fax_text.specs.declared.status.Status.{Status}
-use Rattle.fax_text.specs.declared.status.Status.TheVariants.{Success, Fault, Usage, Unused}
+use Rattle.fax_text.specs.declared.status.Status.TheVariants.{Success, Fault, Usage, Unused, Later}
 
 -- what is said of how an input ended
 abbrev pub end_line : End → List ℕ
@@ -36,6 +36,7 @@ module _ {R W : Type 0} (remaining : R → Option (List ℕ)) (contents : W → 
   EndsWith office Fault line = EndsBadly office line
   EndsWith office Usage line = ⊥
   EndsWith office Unused line = ⊥
+  EndsWith office Later line = ⊥
 
   -- the files have a fault, and nothing is read or written
   pub record HasNoOffice (files : OfficeFiles) (status : Status) (line : List ℕ) : Type 0 where

@@ -26,7 +26,7 @@ use Rattle.fax_files.specs.Office.{ComesOf}
 use Rattle.faxqd.specs.NoQueue.{HasNoQueue}
 use Rattle.fax_ending.specs.Ending.{no_database}
 use Rattle.fax_text.specs.declared.status.Status.{Status}
-use Rattle.fax_text.specs.declared.status.Status.TheVariants.{Success, Fault, Usage, Unused}
+use Rattle.fax_text.specs.declared.status.Status.TheVariants.{Success, Fault, Usage, Unused, Later}
 use Rattle.fax_net.specs.History.{Step}
 use Rattle.fax_net.specs.declared.sockets.Sockets.{Sockets}
 use Rattle.fax_text.specs.declared.server.ServePlan.{ServePlan}
@@ -67,6 +67,7 @@ module _ {W : Type 0} (contents : W → Option (List ℕ)) (out out₂ : Watched
       ((out₂ ≡ out) × HasNoQueue plan.files line) ⊎ (SaidNothing contents out out₂ line ⊎ (Put contents out out₂ listening false × (line ≡ no_database)))
   Ends plan Usage line = ⊥
   Ends plan Unused line = ⊥
+  Ends plan Later line = ⊥
 
   module _ (did : Sockets → Step → Sockets → Type 0) where
     module _ {C : Type 0} (gives : C → List ℕ → ℕ → C → Type 0) (image : Image) (plan : ServePlan) (clock : C) (status : Status) (line : List ℕ) where

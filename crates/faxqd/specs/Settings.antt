@@ -9,7 +9,7 @@ use Rattle.fax_http.specs.Device.{BrokeOff, Put}
 use Rattle.fax_http.specs.declared.device.Watched.{Watched}
 use Rattle.fax_text.specs.declared.server.OfficeFiles.{OfficeFiles}
 use Rattle.fax_text.specs.declared.status.Status.{Status}
-use Rattle.fax_text.specs.declared.status.Status.TheVariants.{Success, Fault, Usage, Unused}
+use Rattle.fax_text.specs.declared.status.Status.TheVariants.{Success, Fault, Usage, Unused, Later}
 
 module _ {W : Type 0} (contents : W → Option (List ℕ)) (out out₂ : Watched W) where
   -- what the files mean is printed, and a line of them isn't used, or each is
@@ -20,6 +20,7 @@ module _ {W : Type 0} (contents : W → Option (List ℕ)) (out out₂ : Watched
   abbrev pub ShowsSettings : OfficeFiles → Status → List ℕ → Type 0
   ShowsSettings files Success line = Prints files false line
   ShowsSettings files Unused line = Prints files true line
+  ShowsSettings files Later line = ⊥
   ShowsSettings files Fault line =
       ((out₂ ≡ out) × (fault : OfficeFault) × IsShownOf files (Err fault) × (line ≡ office_line fault))
       ⊎ ((shown : Shown) × IsShownOf files (Ok shown) × BrokeOff contents out out₂ (string_bytes shown.text) × (line ≡ write_failed))

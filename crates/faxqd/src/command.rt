@@ -8,10 +8,12 @@ ghost use Rattle.faxqd.specs.Saying.{Says};
 use crate::check::check;
 use crate::import::import;
 use crate::list::list;
+use crate::post::post;
 use crate::replay::replay;
 use crate::saying::say_at_end;
 use crate::serve::serve;
 use crate::settings::settings;
+use crate::worker::worker;
 use fax_ending::Ending;
 use fax_http::{MachineClock, Watched};
 use fax_net::sendfax::sendfax;
@@ -62,6 +64,8 @@ fn carry_out<'a, S: Start, R: Read + Drop, W: Write + Drop>(
         Plan::Sendfax(plan) => sendfax(rt, &plan, out),
         Plan::Import(plan) => import(rt, &plan, out),
         Plan::Settings(files) => settings(rt, files, out),
+        Plan::Worker(plan) => worker(rt, &plan, start, out),
+        Plan::Post(plan) => post(rt, &plan, start, out),
     }
 }
 

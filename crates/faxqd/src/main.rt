@@ -2,15 +2,18 @@
 #![tactic(auto)]
 
 mod check;
+mod client;
 mod command;
 mod import;
 mod laws;
 mod list;
+mod post;
 mod queue;
 mod replay;
 mod saying;
 mod serve;
 mod settings;
+mod worker;
 
 use fax_http::Watched;
 use sqlite::Unknown;

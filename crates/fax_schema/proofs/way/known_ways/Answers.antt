@@ -1,4 +1,4 @@
-use Rattle.std.proofs.Common.{List, [], ◌∷◌, inl, inr, arith, refl}
+use Rattle.std.proofs.Common.{[], ◌∷◌, inl, inr, arith, refl}
 use Rattle.fax_schema.specs.Schema.{bare_tables, bare_with_calls, core_tables, first_bare, first_bare_calls, first_core, first_older_core, second_bare, second_bare_calls, second_core}
 use Rattle.fax_schema.specs.Way.{Leads}
 use Rattle.fax_schema.specs.declared.way.Step.TheVariants.{CreateSecond, CreateThird, CreateIndexes}

@@ -10,7 +10,7 @@ use Rattle.fax_core.specs.Ledger.{empty_ledger}
 use Rattle.fax_core.specs.Queue.{empty_queue}
 use Rattle.fax_tables.specs.Tables.{HasEmptyTables, TablesMean}
 use Rattle.fax_tables.proofs.CreateLemmas.{filled}
-use Rattle.fax_tables.proofs.StopLemmas.{step_holds_back}
+use Rattle.fax_layout.proofs.StopLemmas.{step_holds_back}
 use Rattle.fax_tables.specs.Making.{Alters, Always}
 use Rattle.fax_tables.proofs.AlterLemmas.{alters_done, alters_refused, statement}
 use Rattle.fax_tables.proofs.schema.fill_meta.Goals as goal

@@ -8,5 +8,5 @@ pub returns-clause-ok : goal.returns-clause-ok
 returns-clause-ok c = record {
   files = c.files_in.ensures;
   database = sym c.in-Some.ensures;
-  moment = sym c.in-Some-moment_in.ensures;
+  moment = sym c.in-Some-number_or_none.ensures;
 }

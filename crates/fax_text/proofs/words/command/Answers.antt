@@ -4,6 +4,7 @@ use Rattle.clap.specs.Simple.{App, Shape, app_of, app_of_fields, new_app, on_top
 use Rattle.clap.specs.declared.builder.command.Command.TheViews.{out-Command as fields_of}
 use Rattle.fax_text.proofs.WordsLemmas.{adds_made, plain_is_local}
 use Rattle.fax_text.specs.CheckWords.{check_command}
+use Rattle.fax_text.specs.ClientWords.{post_command, worker_command}
 use Rattle.fax_text.specs.ImportWords.{import_command}
 use Rattle.fax_text.specs.ListWords.{list_command}
 use Rattle.fax_text.specs.Server.{replay_command, serve_command, settings_command}
@@ -26,6 +27,8 @@ returns c =
     (λ made e. plain_is_local _ _ _ _ (ap (λ (a : App). a.top.is_plain) e)) c.sendfax_command.ensures in
     let sendfax = adds_made _ _ _ _ sendfax_command c.in_ok-program-5.ensures c.sendfax_command.ensures is_local check in
     let import = adds_made _ _ _ _ import_command c.in_ok-program-6.ensures c.import_command.ensures.shape c.import_command.ensures.local sendfax in
-    IfOk-weaker c.with_command-7.result _ _
-    (λ made adds. adds_made _ made _ _ settings_command adds c.settings_command.ensures.shape c.settings_command.ensures.local import)
-    c.with_command-7.ensures
+    let settings = adds_made _ _ _ _ settings_command c.in_ok-program-7.ensures c.settings_command.ensures.shape c.settings_command.ensures.local import in
+    let worker = adds_made _ _ _ _ worker_command c.in_ok-program-8.ensures c.worker_command.ensures.shape c.worker_command.ensures.local settings in
+    IfOk-weaker c.with_command-9.result _ _
+    (λ made adds. adds_made _ made _ _ post_command adds c.post_command.ensures.shape c.post_command.ensures.local worker)
+    c.with_command-9.ensures

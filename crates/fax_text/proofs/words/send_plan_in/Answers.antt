@@ -20,6 +20,6 @@ returns-clause-ok c = record {
   at = sym c.text_of-4.ensures;
   kill = sym c.text_of-5.ensures;
   tag = sym c.text_of-6.ensures;
-  moment = sym c.in-Some-moment_in.ensures;
+  moment = sym c.in-Some-number_or_none.ensures;
   to = sym c.text_of-7.ensures;
 }

@@ -2,7 +2,7 @@ use Rattle.std.proofs.Common.{subst, sym}
 use Rattle.sqlite.specs.Held.{state}
 use Rattle.fax_store.specs.Adopt.{IsGivenBack}
 use Rattle.fax_store.proofs.AdoptLemmas.{back_over, means_rows, rows_reopened}
-use Rattle.fax_tables.proofs.StopLemmas.{nothing_then}
+use Rattle.fax_layout.proofs.StopLemmas.{nothing_then}
 use Rattle.fax_store.proofs.store.Store.adopt.Goals as goal
 
 pub returns-in-Ok : goal.returns-in-Ok

@@ -2,7 +2,7 @@ use Rattle.std.proofs.Common.{nat_le, rules, subst}
 use Rattle.std.proofs.lemmas.Result.{IfOk-weaker}
 use Rattle.sqlite.specs.Held.{state}
 use Rattle.sqlite.specs.State.{Shown}
-use Rattle.fax_schema.proofs.ColumnLemmas.{all_kept}
+use Rattle.fax_layout.proofs.ColumnLemmas.{all_kept}
 use Rattle.fax_schema.specs.declared.statements.TheConstants.{SELECT_BRIEFS_FROM}
 use Rattle.fax_store.specs.Job.{jobs_from}
 use Rattle.fax_tables.specs.Job.{IsLawfulJob}

@@ -2,7 +2,7 @@ use Rattle.std.proofs.Common.{[], ◌∷◌, ◌&&◌, true, ap, ap₂, ◌∙�
 use Rattle.std.proofs.Math.Bool.{and-true}
 use Rattle.fax_store.specs.declared.candidates.Front.TheVariants.{First, Number, Time, Priority}
 use Rattle.fax_tables.specs.Row.{number}
-use Rattle.fax_schema.proofs.CompareLemmas.{is_number, more_than}
+use Rattle.fax_layout.proofs.CompareLemmas.{is_number, more_than}
 use Rattle.fax_schema.proofs.StatementTexts.{number_tests, other_tests, priority_tests, time_tests}
 use Rattle.fax_schema.proofs.StatementTexts.{select_behind_number, select_behind_priority, select_behind_time, select_first}
 use Rattle.fax_store.proofs.CandidateLemmas.{answers_page, is_not}

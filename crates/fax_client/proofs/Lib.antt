@@ -1,0 +1,4 @@
+mod CourseLemmas
+mod PostingLemmas
+mod SavedLemmas
+mod WorkingLemmas

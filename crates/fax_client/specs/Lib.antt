@@ -1,0 +1,11 @@
+pub mod Answered
+pub mod Asking
+pub mod Course
+pub mod Line
+pub mod Message
+pub mod Posting
+pub mod Saved
+pub mod Shown
+pub mod Step
+pub mod Stop
+pub mod Working

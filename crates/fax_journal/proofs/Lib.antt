@@ -1,0 +1,10 @@
+pub mod StateLemmas
+pub mod ChangeLemmas
+pub mod Texts
+pub mod ReplaceLemmas
+pub mod FormLemmas
+pub mod EntryLemmas
+pub mod ReadingLemmas
+pub mod AdoptLemmas
+pub mod AnswerLemmas
+pub mod MeaningLemmas

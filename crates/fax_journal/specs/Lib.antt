@@ -1,0 +1,6 @@
+pub mod Entry
+pub mod Columns
+pub mod Schema
+pub mod Journal
+pub mod Meaning
+pub mod Calls

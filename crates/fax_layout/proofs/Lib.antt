@@ -1,0 +1,11 @@
+pub mod CompareLemmas
+pub mod SelectLemmas
+pub mod WriteLemmas
+pub mod EditLemmas
+pub mod AppendLemmas
+pub mod ColumnLemmas
+pub mod ShapeLemmas
+pub mod RowsLemmas
+pub mod DatabaseLemmas
+pub mod StopLemmas
+pub mod ShownLemmas

@@ -1,0 +1,4 @@
+pub mod Tables
+pub mod Shape
+pub mod ByRowid
+pub mod Stop

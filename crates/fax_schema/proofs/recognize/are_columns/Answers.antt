@@ -1,7 +1,0 @@
-use Rattle.std.proofs.Common.{arith, refl}
-use Rattle.fax_schema.specs.Schema.{column_of}
-use Rattle.fax_schema.proofs.ShapeLemmas.{same_each}
-use Rattle.fax_schema.proofs.recognize.are_columns.Goals as goal
-
-pub returns : goal.returns
-returns c = (λ _. same_each (λ n. column_of n.0.now n.1) c.args.columns.now c.args.names.now (omega arith) (λ k low. c.loop-at.invariant k (omega arith)), λ _. refl)
