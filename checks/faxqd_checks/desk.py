@@ -304,7 +304,7 @@ def changed(folder):
 def given_up(folder):
     """A fax can be given up before the queue has its job: it is never submitted, or its job is killed if the queue may have
     it."""
-    with office(folder, seconds=3) as (server, desk):
+    with office(folder, seconds=15) as (server, desk):
         within("the queue is seen", lambda: desk.ask("GET", "/health", user=None)[0] == 200)
         desk.submit(b"%!PS\n{} loop", file_name="x.ps")
         waiting = desk.submit(TWO_PAGES)[1]["id"]

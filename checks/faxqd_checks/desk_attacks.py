@@ -314,7 +314,7 @@ def taken_over(folder):
 @check
 def by_turns(folder):
     """Whoever has files that take all their time keeps nobody else's from being converted."""
-    with office(folder, seconds=2) as (_, desk):
+    with office(folder, seconds=15) as (_, desk):
         for _ in range(5):
             desk.submit(b"%!PS\n{} loop", file_name="x.ps")
         made = desk.submit(TEXT, "otto")[1]

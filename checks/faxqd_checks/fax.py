@@ -91,7 +91,7 @@ def commands_killed(office):
     while office.job().get("state") not in ("7", "8"):
         time.sleep(chance.uniform(0.1, 1))
         expect(office.worker.poll() is None, "the worker ends")
-        kills += office.kill_commands()
+        kills += office.kill_next_commands(0.5)
         if chance.random() < 0.1:
             office.server.kill()
             office.server.start()

@@ -218,6 +218,13 @@ class Office:
         """Kills each command that has the worker's journal; returns how many these were."""
         return sum(killed(process) for process in list(processes(said.program, self.folder / "ttyS0/journal")))
 
+    def kill_next_commands(self, patience):
+        """Kills the first commands that are there within some seconds; returns how many these were."""
+        end = time.monotonic() + patience
+        while not (kills := self.kill_commands()) and time.monotonic() < end:
+            time.sleep(0.002)
+        return kills
+
     def send(self):
         """Has a client submit the fax of three pages, and wait for its end."""
         document = self.folder / "desk/documents/fax.tif"
