@@ -7,7 +7,7 @@ import shutil
 import sqlite3
 import subprocess
 
-from .shared import Peer, SETUP, Server, Wrong, database_of, expect, free_port, post, preload
+from .shared import Peer, SETUP, Server, Wrong, database_of, expect, free_port, option, post, preload, said
 
 PATIENCE = 60  # seconds until whatever is awaited counts as never coming
 STOPPED = 77  # the status with which the library ends the process
@@ -98,6 +98,15 @@ MORE_MODES = {
 BROKEN_MODES = {"unsynced": (none, none), "unsynced-db": (none, every)}
 
 
+def modes_of_run():
+    """The ways in which files are left, and whether syncs count."""
+    modes = {**MODES, **MORE_MODES} if said.all else MODES
+    mode = option("mode")
+    if mode:
+        modes = {mode: {**MODES, **MORE_MODES, **BROKEN_MODES}[mode]}
+    return modes, mode not in BROKEN_MODES
+
+
 class Left:
     """A file: its bytes at its last sync, what changed since, and its names: the one on the disk or none, and behind it
     those that it had since the folder was synced."""
@@ -174,13 +183,13 @@ class Disk:
         else:
             raise Wrong(f"{kind} of {name} isn't a call that this script knows")
 
-    def layouts(self, modes):
-        """The files that may be left, each with how they came about."""
+    def layouts(self, modes, database=NAME):
+        """The files that may be left of this database, each with how they came about."""
         for way, more in self.cuts():
             for mode, (of_file, of_others) in modes.items():
                 files = {}
                 for left in [*self.removed, *self.files.values()]:
-                    choose = of_file if left.names[-1] == NAME else of_others
+                    choose = of_file if left.names[-1] == database else of_others
                     name, data = left.by(choose, more.get(left.names[-1], ()))
                     if name:
                         files[name] = data
@@ -218,9 +227,9 @@ def taken(folder):
     return {file.name: file.read_bytes() for file in folder.iterdir()}
 
 
-def rows(folder):
+def rows(folder, name=NAME):
     """All rows of all tables, and what makes the tables, by the system's sqlite, which may change the files."""
-    with database_of(folder / NAME) as database:
+    with database_of(folder / name) as database:
         def ask(text):
             return database.execute(text).fetchall()
 

@@ -4,10 +4,9 @@ they were before or all as they are behind it, and behind it where the reply had
 request gets its reply, and there is one job, one grant or one counted page."""
 import sqlite3
 
-from .disk import (BROKEN_MODES, CONVERSATION, Disk, MODES, MORE_MODES, NAME, Office, Tools, difference, every, lay, rows, taken,
-                   undisturbed)
+from .disk import (CONVERSATION, Disk, NAME, Office, Tools, difference, every, lay, modes_of_run, rows, taken, undisturbed)
 from .runner import group
-from .shared import Wrong, attempt, database_of, expect, expect_same, fault, option, run, said, say, told
+from .shared import Wrong, attempt, database_of, expect, expect_same, fault, run, said, say, told
 
 check = group("stops", "Stops `serve` at each call of the disk that a request or a start makes; the files are then left as "
               "a power loss may leave them, and it starts on them.", "computing")
@@ -139,15 +138,6 @@ def changed(tools, files, statements):
     with database_of(folder / NAME) as database:
         database.executescript(statements)
     return taken(folder)
-
-
-def modes_of_run():
-    """The ways in which files are left, and whether syncs count."""
-    modes = {**MODES, **MORE_MODES} if said.all else MODES
-    mode = option("mode")
-    if mode:
-        modes = {mode: {**MODES, **MORE_MODES, **BROKEN_MODES}[mode]}
-    return modes, mode not in BROKEN_MODES
 
 
 def swept(tools, sweeps):
