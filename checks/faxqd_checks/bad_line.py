@@ -29,7 +29,7 @@ esac
 """
 # One call, and one line of it, with the fields of xferfaxlog(5).
 LOGGED = re.compile(r'\d\d/\d\d/\d\d \d\d:\d\d\tSEND\t000000001\tttyS0\t1\t[^\t]*\t[^\t]*\t"5550111"\t[^\t]*\t[^\t]*\t3\t'
-                    r"0:00:\d\d\t[^\t]*\t[^\t]*\n")
+                    r"0:0\d:\d\d\t[^\t]*\t[^\t]*\n")
 
 
 @contextlib.contextmanager

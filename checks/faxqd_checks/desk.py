@@ -34,7 +34,7 @@ from .shared import (EXAMPLES, MANY, SETUP, TOP, Server, answer_to, attempt, exp
 
 check = group("desk", "Has the desk submit documents once, over kills, refuse hostile files, and keep users apart.", "waiting")
 PYTHON = "/usr/bin/python3"
-PATIENCE = 60
+PATIENCE = 120
 NEEDED = "import flask, waitress, PIL"
 
 TWO_PAGES = b"""%!PS
@@ -434,7 +434,7 @@ def killed(folder):
         finally:
             worker.kill()
         jobs = {desk.fax(number, user)["job"] for user, number in sent}
-        expect(len(sent) > 3 and len({number for _, number in sent}) == len(sent) == len(jobs), f"the faxes are {sent}")
+        expect(len(sent) >= 3 and len({number for _, number in sent}) == len(sent) == len(jobs), f"the faxes are {sent}")
         expect_same(rows_of_copy(folder / "queue.db", "SELECT count(*) FROM jobs"), [(len(sent),)], "the jobs")
         names = [mail["Message-ID"] for _, mail in mails.mails]
         expect(len(set(names)) == len(sent) and len(names) - len(sent) <= kills, f"{len(sent)} ends are mailed {len(names)} times")

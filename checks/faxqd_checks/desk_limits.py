@@ -114,14 +114,14 @@ def retention(folder):
         numbers = "SELECT id FROM faxes ORDER BY id"
         within("old faxes are deleted", lambda: desk.database(numbers) == [(3,), (4,), (6,), (7,), (9,)])
         within("their files are deleted", lambda: not (folder / "desk/uploads" / uploads[2][0]).exists())
-        time.sleep(1)
-        expect(not any((folder / "desk/requests/refused").iterdir()), "the refused request is there")
+        within("the refused request is deleted", lambda: not any((folder / "desk/requests/refused").iterdir()))
         for number in 4, 6, 7, 9:
             with attempt(f"fax {number}"):
                 expect(desk.ask("GET", f"/faxes/{number}/pages/1", user="chief")[0] == 200, "its page isn't shown")
         wanted = {name for number in (3, 4, 6, 7, 9) for name in uploads[number]}
         wanted |= {f"{documents[number]}.tif" for number in (4, 6, 7, 9)}
-        expect_same(sorted(files_in(desk)), sorted(wanted), "the files that are left")
+        within(lambda: f"{sorted(wanted)} are the files that are left, not {sorted(files_in(desk))}",
+               lambda: sorted(files_in(desk)) == sorted(wanted))
         desk.kill()
         desk.database("UPDATE faxes SET stage = 'unusable', is_told = 1, created = 1, ended = 1 WHERE id IN (6, 9)")
         desk.start()

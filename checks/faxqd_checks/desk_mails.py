@@ -6,7 +6,7 @@ import subprocess
 import threading
 import time
 
-from .desk import NESTED, PYTHON, TWO_PAGES, check, converted, key_lines, mail_of, office, png, within
+from .desk import NESTED, PATIENCE, PYTHON, TWO_PAGES, check, converted, key_lines, mail_of, office, png, within
 from .mail_server import MailServer
 from .shared import NotTried, Peer, TOP, Wrong, expect, expect_same, free_port, said
 
@@ -127,9 +127,10 @@ def lmtp_killed(folder):
             time.sleep(chance.uniform(0.1, 1))
             desk.kill()
             desk.start()
+        within("two mails are delivered", lambda: len(sent) > 1)
         ended.set()
-        sender.join(60)
-        expect(not sender.is_alive() and len(sent) > 1, f"{len(sent)} mails are delivered")
+        sender.join(PATIENCE)
+        expect(not sender.is_alive(), f"after {len(sent)} mails one isn't accepted")
         count = "SELECT name, count(*), count(DISTINCT number) FROM faxes GROUP BY name ORDER BY CAST(name AS INTEGER)"
         expect_same(desk.database(count), [(f"{place}", 2, 2) for place in range(len(sent))], "the faxes")
 

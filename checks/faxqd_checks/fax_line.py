@@ -284,10 +284,19 @@ class Office:
         come = [sent.index(page) + 1 for page in received]
         expect(come == pages, f"the pages that have come are {come}, and not {pages}")
 
+    def stops_at_page(self, job, status):
+        """A job that is to stop within its first page has that page, and perhaps the one that was under way by then."""
+        expect(job["npages"] in ("1", "2") and job["status"] == status, f"the job is {job}")
+        self.has_received(list(range(1, int(job["npages"]) + 1)))
+
     def reasons(self):
         """Why calls ended, as the worker reported it."""
-        bodies = {path: body for path, body, _, _ in self.recorder.seen if path.endswith("/outcome")}
+        bodies = {path: body for path, body, _, _ in list(self.recorder.seen) if path.endswith("/outcome")}
         return [json.loads(body)["reason"] for body in bodies.values()]
+
+    def gives_reasons(self, *wanted):
+        """These are the reasons. The last may come a little later than the end of the job."""
+        within(lambda: f"the reasons {wanted}: {self.reasons()}", lambda: self.reasons() == list(wanted))
 
     def ends_with(self, status, said):
         """How the client ends who waits, if there is one."""

@@ -21,7 +21,7 @@ from .shared import (CLOSE, EXAMPLES, Server, Wrong, answer_to, attempt, databas
 
 check = group("faxq", "Has examples/faxq do each command once over a bad line and through stops, say why a job isn't sent, "
               "and take no answer but the queue's own.", "waiting")
-PATIENCE = 30
+PATIENCE = 90
 SETUP = "Modem: ttyS0\nModem: ttyS1\nModemClass: fast:^ttyS0$\nModemClass: none:^x\nJobReqProto: 0\nJobReqBusy: 3000\n"
 CONTROLS = "^666$\n  RejectNotice = Not to them\n^777$\n  TimeOfDay = Never\n^888$\n  MaxConcurrentCalls = 1\n"
 

@@ -14,8 +14,8 @@ import threading
 import time
 
 from .runner import group
-from .shared import (CLOSE, MANY, NO_JOB, NO_JOB_LAST, PATIENCE, Peer, SETUP, Server, Wrong, answer_to, attempt, expect, get,
-                     post, preload, say, settle)
+from .shared import (CLOSE, MANY, NO_JOB, NO_JOB_LAST, PATIENCE, Peer, SETUP, Server, Wrong, answer_to, attempt, busyness, expect,
+                     get, post, preload, say, settle, within)
 
 check = group("peers", "Runs `serve` beside slow peers, greedy ones and more than it has places for: how long a request "
               "takes, what memory they take, and how connections are counted.")
@@ -87,10 +87,13 @@ def dripping(peers):
 
 
 def times_below(port, count, place):
-    """The times of so many requests, once more where that at this place is too long: something else may have had the
-    processors."""
-    took = times(port, count)
-    return took if took[place] < LIMIT else times(port, count)
+    """The times of so many requests, again where that at this place is too long: something else may have had the processors.
+    Returns what that one may take, too."""
+    for _ in range(5):
+        took, limit = times(port, count), LIMIT * busyness()
+        if took[place] < limit:
+            break
+    return took, limit
 
 
 @check
@@ -109,12 +112,12 @@ def crowd(folder):
         time.sleep(0.5)  # until what the system buffers for these is full
         workers = [threading.Thread(target=work, args=(port, modem, told)) for modem in ("ttyS0", "ttyS1")]
         with dripping(drips):
-            alone = times_below(port, 300, 297)
+            alone, alone_limit = times_below(port, 300, 297)
             for worker in workers:
                 worker.start()
             start = time.monotonic()
             peers += [stack.enter_context(connect(port)) for _ in range(200)]
-            took = times_below(port, 1000, 990)
+            took, limit = times_below(port, 1000, 990)
             whole = time.monotonic() - start
             for worker in workers:
                 worker.join(PATIENCE)
@@ -122,8 +125,8 @@ def crowd(folder):
     say(f"behind 53 slow peers a request takes {1e6 * alone[150]:.0f} us, {1e6 * alone[297]:.0f} us at the 99th percentile")
     say(f"with 200 more that wait {1e6 * took[500]:.0f} us, {1e6 * took[990]:.0f} us at the 99th percentile and "
         f"{took[-1]:.2f} s at most; 1,000 take {whole:.1f} s")
-    expect(alone[297] < LIMIT, f"behind 53 slow peers a request takes {alone[297]:.3f} s at the 99th percentile")
-    expect(took[990] < LIMIT, f"behind 253 slow peers a request takes {took[990]:.3f} s at the 99th percentile")
+    expect(alone[297] < alone_limit, f"behind 53 slow peers a request takes {alone[297]:.3f} s at the 99th percentile")
+    expect(took[990] < limit, f"behind 253 slow peers a request takes {took[990]:.3f} s at the 99th percentile")
 
 
 @check
@@ -182,7 +185,7 @@ def kept_open(folder):
                 status, listing = fetch(client)
                 expect(status == 200 and listing.startswith(b"   JID Pri S "), f"a fetch is answered {status}")
             took = times(server.port, 50)
-            expect(took[-1] < 0.5, f"behind idle clients a request takes {took[-1]:.3f} s")
+            expect(took[-1] < 0.5 * busyness(), f"behind idle clients a request takes {took[-1]:.3f} s")
             time.sleep(idle)
         for client in clients:
             client.close()
@@ -273,7 +276,8 @@ def unread(folder):
             settle(server, 4)
             used = server.processor()
             took = times(server.port, 20)
-            clients = [stack.enter_context(Peer(server.port, patience=3)) for _ in range(8)]
+            patience = 3 * busyness()
+            clients = [stack.enter_context(Peer(server.port, patience=patience)) for _ in range(8)]
             for asked in 1, 2:
                 for number, client in enumerate(clients):
                     client.asks(get("/jobs/999999"), NO_JOB, f"client {number}, asking for the {asked}. time")
@@ -281,7 +285,7 @@ def unread(folder):
             used = server.processor() - used
             say(f"beside {count} peers that read nothing a request takes {took[-1]:.3f} s at most, and {used:.2f} s of a processor "
                 "are used in a second")
-            expect(took[-1] < 1, f"a request takes {took[-1]:.2f} s")
+            expect(took[-1] < busyness(), f"a request takes {took[-1]:.2f} s")
             expect(used < 0.2, f"the server uses {used:.2f} s of a processor")
 
 
@@ -296,17 +300,17 @@ def last(folder):
             peer.say(ask)
             expect(peer.reply() == NO_JOB, f"the first gets {peer.got!r}")
             expect(answer_to(server.port, ASK)[0] == 404, "the last isn't answered")
-            start, asked = time.monotonic(), 0
+            start, asked, most = time.monotonic(), 0, limit * busyness()
             with contextlib.suppress(OSError):
-                while pause and time.monotonic() < start + 2 * limit:
+                while pause and time.monotonic() < start + 2 * most:
                     peer.asks(ask, NO_JOB, "who goes on asking")
                     asked += 1
                     time.sleep(pause)
-            expect(asked >= 15 or not pause, f"who goes on asking is answered {asked} times")
-            server.ends("after its last connection", limit)
+            expect(asked * busyness() >= 15 or not pause, f"who goes on asking is answered {asked} times")
+            server.ends("after its last connection", most)
             took = time.monotonic() - start
             say(f"with one that stays, {how}, it ends after {took:.1f} s")
-            expect(took < limit, f"it ends after {took:.1f} s")
+            expect(took < most, f"it ends after {took:.1f} s")
 
 
 REFUSED = 0.05  # seconds behind an accept that fails
@@ -324,21 +328,30 @@ def misses(folder):
     for refused in 1, 7, 20:
         least = refused * REFUSED
         with attempt(f"{refused} accepts that fail"), failing(folder / f"{refused}.db", refused, refused + 3) as server:
-            start = time.monotonic()
+            start, before = time.monotonic(), server.processor()
             with contextlib.ExitStack() as stack:
                 for peer in [stack.enter_context(Peer(server.port)) for _ in range(3)]:
                     peer.say(ASK)
                     expect(peer.rest() == NO_JOB_LAST, f"one that is left gets {peer.got!r}")
-            took, used = time.monotonic() - start, server.processor()
+            took, used = time.monotonic() - start, server.processor() - before
             server.ends("behind those that are left")
-            expect(0.9 * least <= took <= least + 0.5, f"those that are left are served after {took:.2f} s, not {least:.2f} s")
+            most = least + 0.5 * busyness()
+            expect(0.9 * least <= took <= most, f"those that are left are served after {took:.2f} s, not {least:.2f} s")
             expect(used < 0.1, f"the server uses {used:.2f} s of a processor")
     with attempt("each accept fails"), failing(folder / "all.db", 1000, 20) as server, Peer(server.port) as peer:
         start = time.monotonic()
         server.ends("behind twenty accepts that fail")
         took = time.monotonic() - start
         expect(peer.rest() == b"", f"a peer that wasn't accepted gets {peer.got!r}")
-        expect(0.9 * 19 * REFUSED <= took <= 20 * REFUSED + 0.5, f"it ends after {took:.2f} s, not {20 * REFUSED:.2f} s")
+        most = 20 * REFUSED + 0.5 * busyness()
+        expect(0.9 * 19 * REFUSED <= took <= most, f"it ends after {took:.2f} s, not {20 * REFUSED:.2f} s")
+
+
+def has_reply(peer):
+    """Whether something has come for a peer, which stays where it is."""
+    with contextlib.suppress(OSError):
+        return bool(select.select([peer.socket], [], [], 0)[0] and peer.socket.recv(1, socket.MSG_PEEK))
+    return False
 
 
 @check
@@ -346,12 +359,13 @@ def misses_files(folder):
     """Accepts for want of a file count, too: with all of 40 connections accepted or missed, those that wait aren't served when
     others leave, and the server ends."""
     with Server(folder / "queue.db", "--connections", "40", limits=few_files) as server, contextlib.ExitStack() as stack:
-        start = time.monotonic()
+        start, before = time.monotonic(), server.processor()
         peers = [stack.enter_context(Peer(server.port)) for _ in range(30)]
         for peer in peers:
             peer.say(get("/jobs/999999"))
         time.sleep(0.3)
-        served = [peer for peer in peers if select.select([peer.socket], [], [], 0)[0]]
+        within("a peer is served", lambda: any(map(has_reply, peers)))
+        served = [peer for peer in peers if has_reply(peer)]
         expect(1 <= len(served) < 20, f"with 20 files {len(served)} of 30 peers are served")
         for peer in served:
             expect(peer.reply() == NO_JOB, "who is accepted isn't answered")
@@ -359,7 +373,7 @@ def misses_files(folder):
             time.sleep(0.3)
             for peer in served:  # who goes on asking isn't sent away
                 peer.asks(get("/jobs/999999"), NO_JOB, "one that is there")
-        used = server.processor()
+        used = server.processor() - before
         for peer in served:
             peer.socket.close()
         server.ends("once they have left")

@@ -243,16 +243,16 @@ def whole_time(file, words, faster):
 
 
 def exact(folder, tried, cases):
-    """Tries all of these at once, and once more what goes wrong: something else may have had the processors."""
+    """Tries all of these at once, and what goes wrong again: something else may have had the processors."""
     library("clocks")
 
-    def both(place, case):
+    def often(place, case):
         with attempt(f"with the words {case[0]}, and time {case[1]} times as fast"):
-            try:
-                tried(folder / f"{place}.db", *case)
-            except (Wrong, OSError):
-                tried(folder / f"{place}-again.db", *case)
-    threads = [threading.Thread(target=both, args=(place, case)) for place, case in enumerate(cases)]
+            for again in "abcd":
+                with contextlib.suppress(Wrong, OSError):
+                    return tried(folder / f"{place}{again}.db", *case)
+            tried(folder / f"{place}.db", *case)
+    threads = [threading.Thread(target=often, args=(place, case)) for place, case in enumerate(cases)]
     for thread in threads:
         thread.start()
     for thread in threads:

@@ -21,7 +21,7 @@ import time
 TOP = pathlib.Path(__file__).resolve().parent.parent.parent
 CHECKS, CONVERSATIONS, EXAMPLES = TOP / "checks", TOP / "checks/conversations", TOP / "examples"
 LIBRARIES = "clocks", "fail_device", "refuse_accept", "refuse_memory", "stop_disk", "unbuffered"
-PATIENCE = 20  # seconds until whatever is awaited counts as never coming
+PATIENCE = 60  # seconds until whatever is awaited counts as never coming
 LIMIT = 32768  # the kilobytes of data that the program may have, as docs/OPERATIONS.md says
 SETUP = "Modem: ttyS0\nModem: ttyS1\n"
 NO_WAITS = "".join(f"JobReq{why}: 0\n" for why in ("Busy", "NoAnswer", "NoCarrier", "Other", "Proto"))
@@ -468,11 +468,17 @@ class InThread:
         self.server.server_close()
 
 
-measured = []  # before the checks are run, since a busy machine would be given more time
+def busyness():
+    """How many times as long something may take on this machine now: once if nothing else has the processors."""
+    load, _, _, running, _ = pathlib.Path("/proc/loadavg").read_text().split()
+    return 1 + max(float(load), int(running.split("/")[0]) - 1) / len(os.sched_getaffinity(0))
+
+
+measured = []  # before the checks are run, since they keep the machine busy
 
 
 def slack():
-    """The seconds that a busy machine may add to a time limit: two, and twice what a start takes."""
+    """The seconds that a machine may add to a time limit: two, and twice what a start takes; and more while it is busy."""
     if not measured:
         start, more = time.monotonic(), 0
         with contextlib.suppress(Wrong, OSError), new_folder() as folder, Server(folder / "queue.db") as server:
@@ -480,7 +486,7 @@ def slack():
                 peer.asks(ASK, NO_JOB, "a new file")
                 more = 2 * (time.monotonic() - start)
         measured.append(2 + more)
-    return measured[0]
+    return measured[0] * busyness()
 
 
 # ---- other runs of the program

@@ -242,7 +242,7 @@ def far_worker(folder):
     to = "--to", f"127.0.0.1:{port}"
 
     def worker(name, *words):
-        return run("worker", *to, "--journal", folder / name, "--wait", "20", *words, patience=60)[:3]
+        return run("worker", *to, "--journal", folder / name, "--wait", "60", *words, patience=120)[:3]
 
     def posts(client, name, *words):
         return run("post", *to, "--journal", folder / name, "--client", client, "--wait", "0", *words)[:3]
@@ -265,7 +265,7 @@ def far_worker(folder):
             process = subprocess.Popen([TOP / "examples/worker.sh", "ttyS0", folder / "ttyS0", folder / "modem"], env=environment,
                                        stdin=subprocess.DEVNULL)
             try:
-                within("the fax is done", lambda: b"\nstate:7\n" in answer_to(server.port, get("/jobs/2", CLOSE))[1], 60)
+                within("the fax is done", lambda: b"\nstate:7\n" in answer_to(server.port, get("/jobs/2", CLOSE))[1], 300)
             finally:
                 process.terminate()
                 process.wait()

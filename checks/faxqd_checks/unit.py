@@ -227,8 +227,8 @@ def limits(folder):
     expect((serve, pathlib.Path(file).parent) == ("serve", place.state), f"the unit's server is {start}")
     with started(pathlib.Path(file), *rest, limits=filters.confine) as server:
         size = os.stat(file).st_size
-        with Peer(server.port) as peer:
-            for number in range(1, FAXES + 1):
+        for number in range(1, FAXES + 1):  # one connection each, since one for all may be over its time
+            with Peer(server.port) as peer:
                 peer.asks(fax(number), created(number), f"fax {number}")
         expect(os.stat(file).st_size > size + 1_000_000, f"no checkpoint comes: {file} has {os.stat(file).st_size} bytes")
         server.stopped(signal.SIGTERM)

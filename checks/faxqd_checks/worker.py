@@ -484,7 +484,7 @@ def killed(folder):
         until = time.monotonic() + LONG + 60 * faxes
         while not {office.job(job)["state"] for job in jobs} <= {"7", "8"}:
             expect(time.monotonic() < until, f"the faxes aren't sent; the worker says {office.errors()}")
-            time.sleep(killer.random.uniform(0.1, 3))
+            time.sleep(killer.random.uniform(0.1, 3 + sum(killer.kills.values()) / 10))  # so that a slow machine makes progress
             what = killer.random.choice((killer.kill_command, killer.kill_command, killer.kill_worker, office.server.kill))
             what()
             if what == office.server.kill:
