@@ -11,7 +11,7 @@ import subprocess
 import threading
 import time
 
-from .proxy import STRANGE_TO_COMMANDS, Proxy, Strange, number_of, path_of
+from .proxy import STRANGE_TO_COMMANDS, Answers, Proxy, Strange, number_of, path_of
 from .runner import group
 from .shared import (CLOSE, MANY, NO_WAITS, Server, answer_to, attempt, expect, expect_same, free_port, get, one_line, option, post,
                      rows_of_copy, run, said, say)
@@ -234,11 +234,15 @@ def files(folder):
 
 @check
 def waits(folder):
-    """A command gives up for now after --wait, and the next one goes on; a journal that another command has is waited for."""
+    """A command gives up for now after --wait, with ever longer breaks until then, and the next one goes on; a journal that another
+    command has is waited for."""
     with Office(folder) as office, socket.create_server(("127.0.0.1", 0)) as deaf:
         start = time.monotonic()
         expect_same(office.next(to=NOBODY, wait=2), (4, b"", b"faxqd: no answer\n"), "nobody there")
         expect(2 <= time.monotonic() - start < 30, "it doesn't wait two seconds")
+        with Answers(b"") as silent:
+            expect_same(office.next(to=f"127.0.0.1:{silent.port}", wait=5), (4, b"", b"faxqd: no answer\n"), "no answers")
+        expect(len(silent.seen) <= 4, f"it sends {len(silent.seen)} times in five seconds, and not after 1, 3 and 5")
         expect_same(office.worker("show", to=NOBODY), (0, b"none\nunanswered /modems/ttyS0/next\n", b""), "show")
         office.submit()
         words = [said.program, "worker", "--to", f"127.0.0.1:{deaf.getsockname()[1]}", "--journal", folder / "ttyS0.journal", "page"]

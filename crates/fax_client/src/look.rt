@@ -8,6 +8,9 @@ use fax_job::{Call, read_number};
 use fax_worker::Look;
 
 /// What the listing says of the call and the confirmed pages of this modem's grant, if it shows that grant.
+///
+/// No clause says that this is what the queue has. A worker whose journal was lost relies on it: it continues with the page
+/// after the confirmed ones, and makes no second call. `checks/run journals.lost-journals` tries it.
 pub(crate) fn look_in(listing: &str, modem: &str, grant: u32) -> Option<Look> {
     for line in listing.lines() {
         if let Some(rest) = line.strip_prefix(modem)

@@ -10,6 +10,9 @@ use std::time::{Duration, Instant};
 const LONGEST: u64 = 8;
 
 /// Breaks between tries: of one second, then two, four, and eight at most, for as long as there is time.
+///
+/// No clause says that a break lasts so long, nor when the last one is over. The commands of a client rely on it: they end
+/// after `--wait`, and don't send their request all the time. `checks/run journals.waits` tries both.
 #[derive(Drop)]
 pub struct Breaks<'r> {
     rt: &'r HostRuntime,

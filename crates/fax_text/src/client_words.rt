@@ -20,7 +20,7 @@ pub(crate) const WORKER: &str = "worker";
 /// The command that posts any request.
 pub(crate) const POST: &str = "post";
 
-/// What each command with a journal is told.
+/// The options of each command with a journal.
 #[derive(Clone, Copy)]
 pub struct Journaled<'a> {
     /// `--to`: the host and the port of the queue.
