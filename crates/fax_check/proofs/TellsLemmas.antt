@@ -18,25 +18,10 @@ use Rattle.fax_store.specs.Store.{CommitsNothing, HasTables, IsQueryText, Leaves
 use Rattle.fax_store.proofs.StatementLemmas.{query_fails, shown_keeps}
 use Rattle.fax_store.proofs.StopLemmas.{queries_nothing}
 use Rattle.fax_store.proofs.StoreLemmas.{cleaner}
-use Rattle.fax_store.proofs.WorkLemmas.{reads_refused}
+use Rattle.fax_store.proofs.WorkLemmas.{left_then, reads_refused, reads_then}
 use Rattle.fax_tables.specs.declared.fault.StoreFault.{StoreFault}
 use Rattle.fax_tables.specs.declared.fault.StoreFault.TheVariants.{Unavailable}
 use Rattle.fax_layout.proofs.StopLemmas.{nothing_then}
-
--- what is undone behind a call that changes nothing is undone of what was before
-left_then : (a b c : State) → IsUnchanged a b → LeavesCommit b c → LeavesCommit a c
-left_then a b c same (inl next) = inl (unchanged_then a b c same next)
-left_then a b c same (inr undone) = inr (record {
-  was_open = λ is_open. same.0.was_open;
-  undone = λ is_open. let u = undone.undone is_open in (u.0 ∙ same.0.committed_is, u.1 ∙ same.0.committed_is);
-  autocommit = undone.autocommit;
-  unmarked = undone.unmarked;
-  counts = record { changes = undone.counts.changes ∙ same.1.changes; last_rowid = undone.counts.last_rowid ∙ same.1.last_rowid };
-})
-
-reads_then : (a b c : State) {A : Type 0} (result : Result A StoreFault) → IsUnchanged a b → Reads b c result → Reads a c result
-reads_then a b c (Ok x) same next = unchanged_then a b c same next
-reads_then a b c (Err e) same next = left_then a b c same next
 
 if_ok : {A : Type 0} (result : Result A StoreFault) (P Q : A → Type 0) → ((a : A) → P a → Q a) → IfOk result P → IfOk result Q
 if_ok (Ok a) P Q so h = so a h

@@ -86,8 +86,8 @@ pub fn no_page_twice()
     ensures imported { RunsSendNoImportedPage }
 {}
 
-/// A grant keeps its number, job, modem and pages over a run from a sound queue. No page confirmed under it is taken
-/// back, and a closed grant stays as it is.
+/// A grant keeps its number, job, modem and pages over a run from a sound queue, unless its job is gone by the end. No page
+/// confirmed under it is taken back, and a closed grant stays as it is.
 pub fn grants_stay()
     ensures { RunsKeepGrants }
 {}

@@ -107,8 +107,23 @@ pub const END_TIMES: &str = "UPDATE times SET ended = ?2 WHERE job = ?1";
 
 // ---- purging
 
+// It reads `times` in the order of the jobs, and looks up each job whose end is right.
 pub const SELECT_LEAVING: &str = "SELECT times.job FROM times JOIN jobs ON jobs.job = times.job \
-    WHERE times.ended < ?1 AND jobs.phase > 2 AND jobs.phase < 5 ORDER BY times.job LIMIT 1000";
+    WHERE times.ended >= ?2 AND times.ended < ?1 AND jobs.phase > 2 AND jobs.phase < 5 ORDER BY times.job LIMIT 1000";
+
+// The index by kill time has all that it asks. By `< 3` it would be read to the end of phase 3.
+pub const SELECT_MANY_NOT_OVER: &str = "SELECT job FROM jobs WHERE phase <= 2 LIMIT 1 OFFSET 24999";
+
+pub const SELECT_MANY_OVER: &str = "SELECT job FROM jobs WHERE phase >= 3 LIMIT 1 OFFSET 9999";
+
+// It reads the jobs that are over in the index by kill time, and looks up the times of each.
+pub const SELECT_LEAVING_OVER: &str =
+    "SELECT times.job FROM jobs JOIN times ON times.job = jobs.job \
+    WHERE jobs.phase > 2 AND jobs.phase < 5 AND times.ended < ?1 ORDER BY times.job LIMIT 1000";
+
+// It reads them too, and looks up the times of each up to that number.
+pub const SELECT_ENDED_AT_0: &str = "SELECT jobs.job FROM jobs JOIN times ON times.job = jobs.job \
+    WHERE jobs.phase > 2 AND jobs.phase < 5 AND jobs.job <= ?1 AND times.ended < 1 LIMIT 1";
 
 pub const DELETE_JOB: &str = "DELETE FROM jobs WHERE job = ?1";
 

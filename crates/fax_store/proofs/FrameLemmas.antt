@@ -1,5 +1,5 @@
 -- What calls leave, one after the other.
-use Rattle.std.proofs.Common.{◌≡◌, inl, MatchResult, ℕ, List, false, Ok, Err, Result, IfOk, OnOk, IsErr, IsErrAnd, Option, is_err, refl, subst, sym, ◌∙◌, Bool}
+use Rattle.std.proofs.Common.{◌≡◌, inl, MatchResult, ℕ, List, false, Ok, Err, Result, IfOk, OnOk, IsErr, IsErrAnd, Option, is_err, ap, refl, subst, sym, ◌∙◌, Bool}
 use Rattle.fax_store.proofs.StoreLemmas.{clean_in, served}
 use Rattle.fax_store.proofs.StatementLemmas.{left_open, run_open}
 use Rattle.std.specs.Prelude.{⊤}
@@ -25,7 +25,7 @@ use Rattle.fax_tables.specs.Tables.{TablesMean}
 use Rattle.fax_tables.specs.declared.fault.StoreFault.{StoreFault}
 use Rattle.fax_tables.specs.declared.fault.StoreFault.TheVariants.{Unavailable}
 use Rattle.fax_store.proofs.StopLemmas.{withholds_by, withholds_then, edit_withholds, refused_withholds}
-use Rattle.fax_store.proofs.WorkLemmas.{found_in, holds_by, holds_then, keeps_by, moved_by, reads_same, stays_by, steps_fault, edit_holds, left_holds, never_ok}
+use Rattle.fax_store.proofs.WorkLemmas.{found_in, holds_by, holds_then, keeps_by, moved_by, reads_same, reads_then, stays_by, steps_fault, edit_holds, left_holds, never_ok}
 pub use Rattle.fax_tables.proofs.ResultLemmas.{on_err, or_weaker, passes_on, popped}
 pub use Rattle.fax_store.proofs.WorkLemmas.{err_as, goes_on, inside_by, move_by, moves_by, moves_of, ok_as, only_unavailable, reads_refused, refused_as, refused_steps, step_by, step_of, steps_where, there_as}
 
@@ -54,6 +54,19 @@ module _ {S : Type 0} (g : Ghosts S) where
   pub finds_as : (old new : Store S) {A B : Type 0} (x : A) (result : Result B StoreFault) → Finds g old new (Ok x) → Finds g old new result
   finds_as old new x result finds =
       finds_by old new result finds.served finds.clean (on_any result finds.opens) (λ tables clean. reads_same (shown g old) (shown g new) result (finds.reads tables clean)) finds.crash
+
+  -- nor do two readings change anything
+  pub finds_then : (old mid new : Store S) {A B : Type 0} (x : A) (result : Result B StoreFault) → Finds g old mid (Ok x) → Finds g mid new result → Finds g old new result
+  finds_then old mid new x result first next =
+      finds_by old new result (λ serves. first.served (next.served serves)) (λ clean. first.clean (next.clean clean)) next.opens
+      (λ tables clean. let same = first.reads tables (next.clean clean) in reads_then (shown g old) (shown g mid) (shown g new) result same (next.reads (ap (λ (d : Database). d.schema) same.0.now_is ∙ tables) clean))
+      (λ found may. first.crash found (next.crash found may))
+
+  -- and the tables mean after one what they meant before
+  pub means_then : (old mid : Store S) {A : Type 0} (x : A) → Finds g old mid (Ok x) → (m : Queue) (k : Ledger) → MeansNow (shown g old) m k → MeansNow (shown g mid) m k
+  means_then old mid x finds m k means serves =
+      let was = means (finds.served serves) in
+      subst (λ (d : Database). TablesMean d m k) (sym (finds.reads was.schema serves.clean).0.now_is) was
 
   -- a test of what it reads is of the tables
   pub tests_by : {X : Database → Type 0} {old new : Store S} {A : Type 0} {x : A} (result : Result (Unit {0}) StoreFault) → Finds g old new (Ok x)

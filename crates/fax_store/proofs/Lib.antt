@@ -15,6 +15,7 @@ pub mod EndLemmas
 pub mod PurgeLemmas
 pub mod LeaveLemmas
 pub mod LeavingLemmas
+pub mod EarlyLemmas
 pub mod JobLemmas
 pub mod ModemLemmas
 pub mod GrantLemmas

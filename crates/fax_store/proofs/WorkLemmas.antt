@@ -1,6 +1,7 @@
 -- What a work means across its calls.
 use Rattle.std.proofs.Common.{◌≡◌, inl, inr, ℕ, List, true, false, Ok, Err, Result, MatchResult, OnOk, OnErr, IfErr, IfOk, IsErrAnd, is_err, if◌then◌else◌, ap, refl, sym, ◌∙◌, Bool, IsTrue, Option, Some, None, option_map}
 use Rattle.std.proofs.lemmas.Option.{same_Some}
+use Rattle.sqlite.proofs.Callers.{unchanged_then}
 use Rattle.sqlite.specs.Effect.{Database}
 use Rattle.sqlite.specs.Order.{Row}
 use Rattle.sqlite.specs.State.{State, HasCleanDisk, IsUnchanged, Executes}
@@ -84,6 +85,22 @@ inside_by old new holds s inside tables = (holds old.committed (λ _. record { b
 pub reads_same : {A : Type 0} (old new : State) (result : Result A StoreFault) → IsUnchanged old new → Reads old new result
 reads_same old new (Ok a) same = same
 reads_same old new (Err e) same = inl same
+
+-- what is undone behind a call that changes nothing is undone of what was before
+pub left_then : (a b c : State) → IsUnchanged a b → LeavesCommit b c → LeavesCommit a c
+left_then a b c same (inl next) = inl (unchanged_then a b c same next)
+left_then a b c same (inr undone) = inr (record {
+  was_open = λ is_open. same.0.was_open;
+  undone = λ is_open. let u = undone.undone is_open in (u.0 ∙ same.0.committed_is, u.1 ∙ same.0.committed_is);
+  autocommit = undone.autocommit;
+  unmarked = undone.unmarked;
+  counts = record { changes = undone.counts.changes ∙ same.1.changes; last_rowid = undone.counts.last_rowid ∙ same.1.last_rowid };
+})
+
+-- so one reading leaves the same behind another
+pub reads_then : (a b c : State) {A : Type 0} (result : Result A StoreFault) → IsUnchanged a b → Reads b c result → Reads a c result
+reads_then a b c (Ok x) same next = unchanged_then a b c same next
+reads_then a b c (Err e) same next = left_then a b c same next
 
 -- a refusal
 pub reads_refused : {A : Type 0} (old new : State) (result : Result A StoreFault) (P : StoreFault → Type 0) → IsErrAnd result P → LeavesCommit old new → Reads old new result
