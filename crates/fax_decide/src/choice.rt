@@ -26,7 +26,8 @@ ghost use Rattle.fax_job.specs.declared.refusal.Refusal.TheVariants.{ModemBusy};
 ghost use Rattle.fax_tables.specs.Grant.{as_hold};
 ghost use Rattle.fax_store.specs.Candidates.{StandsAt};
 ghost use Rattle.fax_dest.specs.Setup.{admits};
-ghost use Rattle.fax_decide.specs.Choice.{AreBusy, IsBusy, IsBusyModem, IsFirst, IsFirstAsked, IsGrantOf, is_held_by, with_number};
+ghost use Rattle.fax_dest.specs.Finder.{IsFinderOf};
+ghost use Rattle.fax_decide.specs.Choice.{HasLearned, IsBusy, IsBusyModem, IsFirst, IsFirstAsked, IsGrantOf, is_held_by, with_number};
 ghost use Rattle.fax_decide.specs.Decision.{Decides};
 ghost use Rattle.fax_decide.specs.Fault.{OrNoAnswer};
 ghost use Rattle.fax_decide.specs.Looking.{Consults};
@@ -41,6 +42,7 @@ use crate::held::held_grant;
 use crate::office::Office;
 use fax_ask::{Answer, Detail, Handed, Reply};
 use fax_core::{Change, Grant, fits, grant};
+use fax_dest::Finder;
 use fax_job::limits::LAST_JOB;
 use fax_job::{Dial, Job, Moment, Name, Refusal};
 use fax_store::{Candidates, Hold, Store};
@@ -50,6 +52,15 @@ use std::alloc::{AllocError, Global};
 
 /// How many numbers to which no call may begin one look for work remembers.
 const MOST_KNOWN: usize = 16;
+
+/// What one look for work learns of numbers.
+#[derive(Drop)]
+struct Learned<'a> {
+    /// Has searched for the rules of some.
+    finder: Finder<'a>,
+    /// To these no call may begin.
+    busy: Vec<Dial>,
+}
 
 /// Decides at `t` what a modem gets that asks for work. `next_grant` is the number of its grant.
 pub(crate) fn decide_next<S: Alter>(
@@ -146,31 +157,34 @@ fn first<S: Alter>(
     ensures { Consults S.Store store.old store.new result (λ m. Sound m
         → OrNoAnswer result (IsFirst (settings_of office.now.setup office.now.controls) m t modem.now)) }
 {
-    let mut busy = Vec::new(alloc);
-    let found = first_or_busy(store, office, alloc, &mut busy, modem, t)?;
+    let mut learned = Learned {
+        finder: office.controls.finder(alloc),
+        busy: Vec::new(alloc),
+    };
+    let found = first_or_busy(store, office, alloc, &mut learned, modem, t)?;
+    let Learned { finder, mut busy } = learned;
     match busy.pop() {
         None => Ok(found),
-        Some(dial) => first_but(store, office, alloc, dial, modem, t),
+        Some(dial) => first_but(store, office, alloc, finder, dial, modem, t),
     }
 }
 
-/// The number of the first of the waiting jobs that may go to the modem at `t`; or `busy` gets the first number that
-/// is found to which no call may begin.
+/// The number of the first of the waiting jobs that may go to the modem at `t`; or `busy` of `learned` gets the first
+/// number that is found to which no call may begin.
 fn first_or_busy<S: Alter>(
     store: &mut Store<S>,
     office: &Office,
     alloc: Global,
-    busy: &mut Vec<Dial>,
+    learned: &mut Learned<'_>,
     modem: &Name,
     t: Moment,
 ) -> Result<Option<u32>, Fault>
-    ensures { Consults S.Store store.old store.new result (λ m. Sound m
-        → AreBusy (settings_of office.now.setup office.now.controls) m t busy.old.items
-        → OrNoAnswer result (λ found. AreBusy (settings_of office.now.setup office.now.controls) m t busy.new.items
-        × (busy.new.items ≡ [] → IsFirst (settings_of office.now.setup office.now.controls) m t modem.now found))) }
+    ensures { Consults S.Store store.old store.new result (λ m. Sound m → HasLearned office.now m t learned.old
+        → OrNoAnswer result (λ found. HasLearned office.now m t learned.new
+        × (learned.new.busy.items ≡ [] → IsFirst (settings_of office.now.setup office.now.controls) m t modem.now found))) }
 {
     let mut candidates = store.candidates(t);
-    first_of(&mut candidates, office, alloc, busy, true, modem, t)
+    first_of(&mut candidates, office, alloc, learned, true, modem, t)
 }
 
 /// The number of the first of the waiting jobs that may go to the modem at `t`, where no call to that number may begin.
@@ -178,26 +192,38 @@ fn first_but<S: Alter>(
     store: &mut Store<S>,
     office: &Office,
     alloc: Global,
+    finder: Finder<'_>,
     busy: Dial,
     modem: &Name,
     t: Moment,
 ) -> Result<Option<u32>, Fault>
-    ensures { Consults S.Store store.old store.new result (λ m. Sound m
+    ensures { Consults S.Store store.old store.new result (λ m. Sound m → IsFinderOf office.now.controls finder.entry
         → IsBusy (settings_of office.now.setup office.now.controls) m t (Some busy)
         → OrNoAnswer result (IsFirst (settings_of office.now.setup office.now.controls) m t modem.now)) }
 {
-    let mut others = Vec::new(alloc);
+    let mut learned = Learned {
+        finder,
+        busy: Vec::new(alloc),
+    };
     let mut candidates = store.candidates_but(t, busy);
-    first_of(&mut candidates, office, alloc, &mut others, false, modem, t)
+    first_of(
+        &mut candidates,
+        office,
+        alloc,
+        &mut learned,
+        false,
+        modem,
+        t,
+    )
 }
 
-/// The number of the first of the candidates that may go to the modem at `t`, the moment that they were asked for.
-/// `busy` has numbers to which none may. If `ends_at_busy`, the look ends as soon as there is one.
+/// The number of the first of the candidates that may go to the modem at `t`, the moment that they were asked for. If
+/// `ends_at_busy`, the look ends as soon as a number is learned to which no call may begin.
 fn first_of<S: Alter>(
     candidates: &mut Candidates<'_, S>,
     office: &Office,
     alloc: Global,
-    busy: &mut Vec<Dial>,
+    learned: &mut Learned<'_>,
     ends_at_busy: bool,
     modem: &Name,
     t: Moment,
@@ -206,9 +232,8 @@ fn first_of<S: Alter>(
     ensures consults { Consults S.Store candidates.old.store.now candidates.new.store.now result (λ m. Sound m
         → candidates.old.asked.t ≡ t
         → StandsAt candidates.old.asked m [] (into_iter_items candidates.old.page) candidates.old.front candidates.old.most
-        → AreBusy (settings_of office.now.setup office.now.controls) m t busy.old.items
-        → OrNoAnswer result (λ found. AreBusy (settings_of office.now.setup office.now.controls) m t busy.new.items
-        × ((IsTrue ends_at_busy → busy.new.items ≡ [])
+        → HasLearned office.now m t learned.old → OrNoAnswer result (λ found. HasLearned office.now m t learned.new
+        × ((IsTrue ends_at_busy → learned.new.busy.items ≡ [])
         → IsFirstAsked (settings_of office.now.setup office.now.controls) candidates.old.asked m modem.now found))) }
 {
     // Each job has a number of its own, so no sound queue has more.
@@ -217,10 +242,10 @@ fn first_of<S: Alter>(
             return Ok(None);
         };
         let job = prospect.job;
-        if goes(candidates, office, alloc, prospect, busy, modem, t)? {
+        if goes(candidates, office, alloc, prospect, learned, modem, t)? {
             return Ok(Some(job));
         }
-        if ends_at_busy && !busy.as_slice().is_empty() {
+        if ends_at_busy && !learned.busy.as_slice().is_empty() {
             return Ok(None);
         }
     }
@@ -228,14 +253,14 @@ fn first_of<S: Alter>(
 }
 
 /// Whether a job that is due may go to the modem at `t`: a call to its number may begin, and its modem value admits the
-/// modem. A number in `busy` isn't looked up, and one to which no call may begin is added. So many jobs to a few busy
-/// numbers cost a few look-ups.
+/// modem. A number that is known as busy isn't looked up, and one to which no call may begin is learned. So many jobs to
+/// a few busy numbers cost a few look-ups.
 fn goes<S: Alter>(
     candidates: &mut Candidates<'_, S>,
     office: &Office,
     alloc: Global,
     prospect: Prospect,
-    busy: &mut Vec<Dial>,
+    learned: &mut Learned<'_>,
     modem: &Name,
     t: Moment,
 ) -> Result<bool, Fault>
@@ -243,10 +268,10 @@ fn goes<S: Alter>(
     ensures same { (candidates.new.asked ≡ candidates.old.asked) × (candidates.new.page ≡ candidates.old.page)
         × (candidates.new.front ≡ candidates.old.front) × (candidates.new.most ≡ candidates.old.most) }
     ensures consults { Consults S.Store candidates.old.store.now candidates.new.store.now result (λ m.
-        AreBusy (settings_of office.now.setup office.now.controls) m t busy.old.items
+        HasLearned office.now m t learned.old
         → OrNoAnswer result (λ goes. (goes ≡ (may_call (settings_of office.now.setup office.now.controls) prospect.dial
         (calls_to prospect.dial m) t && admits office.now.setup prospect.modem modem.now))
-        × AreBusy (settings_of office.now.setup office.now.controls) m t busy.new.items)) }
+        × HasLearned office.now m t learned.new)) }
 {
     let Prospect {
         job: _,
@@ -255,11 +280,11 @@ fn goes<S: Alter>(
         priority: _,
         tts: _,
     } = prospect;
-    if is_known(busy, &dial) {
+    if is_known(&learned.busy, &dial) {
         return Ok(false);
     }
-    if !may_call(candidates, office, alloc, &dial, t)? {
-        remember(busy, dial)?;
+    if !may_call(candidates, office, alloc, &mut learned.finder, &dial, t)? {
+        remember(&mut learned.busy, dial)?;
         return Ok(false);
     }
     Ok(office.setup.admits(alloc, value.as_str(), modem.as_str())?)
@@ -270,6 +295,7 @@ fn may_call<S: Alter>(
     candidates: &mut Candidates<'_, S>,
     office: &Office,
     alloc: Global,
+    finder: &mut Finder<'_>,
     dial: &Dial,
     t: Moment,
 ) -> Result<bool, Fault>
@@ -277,14 +303,16 @@ fn may_call<S: Alter>(
     ensures same { (candidates.new.asked ≡ candidates.old.asked) × (candidates.new.page ≡ candidates.old.page)
         × (candidates.new.front ≡ candidates.old.front) × (candidates.new.most ≡ candidates.old.most) }
     ensures consults { Consults S.Store candidates.old.store.now candidates.new.store.now result (λ m.
-        OrNoAnswer result (λ may. may ≡ may_call (settings_of office.now.setup office.now.controls) dial.now
-        (calls_to dial.now m) t)) }
+        IsFinderOf office.now.controls finder.old → OrNoAnswer result (λ may. (may ≡ may_call
+        (settings_of office.now.setup office.now.controls) dial.now (calls_to dial.now m) t)
+        × IsFinderOf office.now.controls finder.new)) }
 {
-    if !office.has_hours(alloc, dial, t)? {
+    let rule = office.rule_by(finder, alloc, dial)?;
+    if !office.is_in_hours(rule, t)? {
         return Ok(false);
     }
     let calls = candidates.active_to(dial)?;
-    office.may_call(alloc, dial, calls, t)
+    Ok(calls < u64::from(rule.calls))
 }
 
 /// Whether this number is one of those.

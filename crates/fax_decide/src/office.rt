@@ -1,11 +1,12 @@
 //! What the queue asks of its setup and its destination controls.
 
-ghost use Rattle.std.specs.Prelude.{◌≡◌, Ok, IfOk};
+ghost use Rattle.std.specs.Prelude.{◌≡◌, Ok, IfOk, OnOk};
+ghost use Rattle.fax_dest.specs.Finder.{IsFinderOf};
 ghost use Rattle.fax_decide.specs.Settings.{have_moment, rule_for};
 ghost use Rattle.fax_store.specs.Calls.{within};
 
 use fax_core::state_at;
-use fax_dest::{Controls, Rule, Setup};
+use fax_dest::{Controls, Finder, Rule, Setup};
 use fax_hours::{MomentFault, week_minute};
 use fax_job::{Dial, Job, Moment};
 use std::alloc::{AllocError, Global};
@@ -27,6 +28,20 @@ impl Office {
         ensures { IfOk result (λ rule. rule.now ≡ rule_for self.now.controls dial.now) }
     {
         let place = self.controls.rule_of(alloc, dial)?;
+        Ok(self.controls.rule_at(place))
+    }
+
+    /// The rule of a number, of which there may be many to look up.
+    pub(crate) fn rule_by(
+        &self,
+        finder: &mut Finder<'_>,
+        alloc: Global,
+        dial: &Dial,
+    ) -> Result<&Rule, AllocError>
+        ensures { IsFinderOf self.now.controls finder.old → OnOk result (IsFinderOf self.now.controls finder.new)
+            × IfOk result (λ rule. rule.now ≡ rule_for self.now.controls dial.now) }
+    {
+        let place = finder.rule_of(alloc, dial)?;
         Ok(self.controls.rule_at(place))
     }
 

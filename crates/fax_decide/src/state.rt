@@ -1,4 +1,4 @@
-//! The state of a job, by sendq(5), and whether a call may begin.
+//! The state of a job, by sendq(5).
 
 ghost use Rattle.std.specs.Prelude.{◌≡◌};
 ghost use Rattle.fax_core.specs.Job.{job_of};
@@ -6,12 +6,12 @@ ghost use Rattle.fax_core.specs.State.{state as job_state};
 ghost use Rattle.fax_decide.specs.Fault.{OrNoAnswer};
 ghost use Rattle.fax_decide.specs.Looking.{Consults};
 ghost use Rattle.fax_decide.specs.Settings.{settings_of};
-ghost use Rattle.fax_decide.specs.State.{may_call, state_with};
+ghost use Rattle.fax_decide.specs.State.{state_with};
 
 use crate::fault::Fault;
 use crate::office::Office;
 use fax_core::state_at;
-use fax_job::{Dial, Job, Moment};
+use fax_job::{Job, Moment};
 use fax_store::Store;
 use sqlite::Alter;
 use std::alloc::Global;
@@ -31,31 +31,6 @@ impl Office {
         let rule = self.rule_of(alloc, &job.fields().dial)?;
         let is_in_hours = self.is_in_hours(rule, t)?;
         Ok(state_at(job, is_in_hours, calls, u64::from(rule.calls), t))
-    }
-
-    /// Whether the hours of that number's rule have `t`.
-    pub(crate) fn has_hours(&self, alloc: Global, dial: &Dial, t: Moment) -> Result<bool, Fault>
-        ensures { OrNoAnswer result (λ has.
-            has ≡ ((settings_of self.now.setup self.now.controls).rule dial.now).hours t) }
-    {
-        let rule = self.rule_of(alloc, dial)?;
-        Ok(self.is_in_hours(rule, t)?)
-    }
-
-    /// Whether a call to that number may begin at `t`, where that many are open to it.
-    pub(crate) fn may_call(
-        &self,
-        alloc: Global,
-        dial: &Dial,
-        calls: u64,
-        t: Moment,
-    ) -> Result<bool, Fault>
-        ensures { OrNoAnswer result (λ may.
-            may ≡ may_call (settings_of self.now.setup self.now.controls) dial.now calls t) }
-    {
-        let rule = self.rule_of(alloc, dial)?;
-        let is_in_hours = self.is_in_hours(rule, t)?;
-        Ok(is_in_hours && calls < u64::from(rule.calls))
     }
 }
 

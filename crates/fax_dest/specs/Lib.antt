@@ -10,3 +10,4 @@ pub mod Parameter
 pub mod Rule
 pub mod Controls
 pub mod ControlsStep
+pub mod Finder

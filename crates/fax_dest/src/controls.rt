@@ -5,11 +5,10 @@ ghost use Rattle.fax_dest.specs.Pattern.{IsPlain};
 use crate::fault::{FileFault, FileKind};
 use crate::line::{at_blank, is_indented, is_skipped};
 use crate::parameter::Parameter;
-use crate::pattern::{is_found, pattern};
-use fax_job::Dial;
+use crate::pattern::pattern;
 use fax_lines::cut_line;
 use fax_rule::Rule;
-use regex::Regex;
+use regex::{Matcher, Regex};
 use std::alloc::{AllocError, Global};
 
 /// Rules of destinations, in their order, of which the first that matches a number holds.
@@ -40,7 +39,7 @@ pub struct Entry {
 impl Controls {
     ghost use Rattle.std.specs.Prelude.{◌≡◌, IfOk, Err};
     ghost use Rattle.std.specs.Str.{IsUtf8};
-    ghost use Rattle.fax_dest.specs.Controls.{lines_of, AreControlsOf, place_of, rule_at};
+    ghost use Rattle.fax_dest.specs.Controls.{lines_of, AreControlsOf, rule_at};
     ghost use Rattle.fax_dest.specs.Fault.{GivesFile, fault_at};
     ghost use Rattle.fax_dest.specs.declared.fault.FileKind.TheVariants.{NotText};
 
@@ -97,15 +96,6 @@ impl Controls {
         self.rules.as_slice()
     }
 
-    /// The place of the first rule whose pattern is found anywhere in the canonical number, else the
-    /// number of rules.
-    #[tactic(auto, unfolding(crate::specs::Controls::place_of))]
-    pub fn rule_of(&self, alloc: Global, dial: &Dial) -> Result<usize, AllocError>
-        ensures { IfOk result (λ place. place ≡ place_of self.now dial.now) }
-    {
-        Entry::place(alloc, &self.rules, dial.text())
-    }
-
     /// The rule at a place; what holds without one, at and past the end.
     pub fn rule_at(&self, place: usize) -> &Rule
         ensures { result.now ≡ rule_at self.now place }
@@ -119,12 +109,12 @@ impl Controls {
 
 impl Entry {
     ghost use Rattle.std.specs.Prelude.{◌≡◌, IfOk};
-    ghost use Rattle.std.specs.List.{position_or_len};
-    ghost use Rattle.regex.specs.Strings.{regex_source};
-    ghost use Rattle.fax_dest.specs.Controls.{line_of, begun, behind_of, matches, added};
+    ghost use Rattle.regex.specs.Strings.{matcher_pattern, regex_source};
+    ghost use Rattle.fax_dest.specs.Controls.{line_of, begun, behind_of, added};
     ghost use Rattle.fax_dest.specs.Line.{at_blank};
     ghost use Rattle.fax_dest.specs.ControlsStep.{rules_of, has_rule, IsTaken, IsBegun, IsRuleOf};
     ghost use Rattle.fax_dest.specs.Fault.{GivesLine};
+    ghost use Rattle.fax_dest.specs.Finder.{entry_pattern};
 
     /// The text of the pattern.
     pub fn pattern(&self) -> &str
@@ -192,19 +182,10 @@ impl Entry {
         Ok(())
     }
 
-    /// The place of the first whose pattern is found, else how many they are.
-    fn place(alloc: Global, rules: &[Entry], number: &str) -> Result<usize, AllocError>
-        ensures { IfOk result (λ place. place ≡ position_or_len (matches number.now) rules.now) }
+    /// A search for the pattern.
+    pub(crate) fn matcher(&self, alloc: Global) -> Result<Matcher<'_>, AllocError>
+        ensures { IfOk result (λ matcher. matcher_pattern matcher ≡ entry_pattern self.now) }
     {
-        let mut place = 0;
-        let mut rest = rules;
-        while let [entry, after @ ..] = rest {
-            if is_found(alloc, &entry.pattern, number)? {
-                return Ok(place);
-            }
-            place += 1;
-            rest = after;
-        }
-        Ok(place)
+        self.pattern.matcher(alloc)
     }
 }

@@ -8,6 +8,7 @@
 
 mod controls;
 mod fault;
+mod finder;
 mod line;
 mod parameter;
 mod pattern;
@@ -18,5 +19,6 @@ mod unused;
 pub use controls::{Controls, Entry};
 pub use fault::{FileFault, FileKind};
 pub use fax_rule::{Notice, Rule};
+pub use finder::Finder;
 pub use setup::{Class, Setup};
 pub use unused::{is_unused_control, is_unused_setting, zone_in};

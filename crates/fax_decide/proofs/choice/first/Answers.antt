@@ -8,19 +8,19 @@ use Rattle.fax_decide.proofs.choice.first.Goals as goal
 pub returns-in_err-found : goal.returns-in_err-found
 returns-in_err-found g c = stops c.from_residual.ensures.1 c.in_err-found.ensures (λ m out found sound.
     let s = settings_of c.args.office.now.setup c.args.office.now.controls in
-    let none : c.new-busy.result.items ≡ [] = search rules in
-    out _ (found sound (subst (AreBusy s m c.args.t) (sym none) (none_busy s m c.args.t))))
+    let none : c.new.result.items ≡ [] = search rules in
+    out _ (found sound (c.finder.ensures, subst (AreBusy s m c.args.t) (sym none) (none_busy s m c.args.t))))
 
 pub returns-in-None : goal.returns-in-None
 returns-in-None g c = goes_on c.in_ok-found.ensures (λ m k at found sound.
     let s = settings_of c.args.office.now.setup c.args.office.now.controls in
-    let none : c.new-busy.result.items ≡ [] = search rules in
-    let still : c.first_or_busy.new.busy.items ≡ [] = search rules in
-    (found sound (subst (AreBusy s m c.args.t) (sym none) (none_busy s m c.args.t))).1 still)
+    let none : c.new.result.items ≡ [] = search rules in
+    let still : c.first_or_busy.new.learned.busy.items ≡ [] = search rules in
+    (found sound (c.finder.ensures, subst (AreBusy s m c.args.t) (sym none) (none_busy s m c.args.t))).1 still)
 
-pub returns : goal.returns
-returns g c = gives (both c.in_ok-found.ensures c.first_but.ensures) (λ m k at calls sound.
+pub returns-in-Some : goal.returns-in-Some
+returns-in-Some g c = gives (both c.in_ok-found.ensures c.first_but.ensures) (λ m k at calls sound.
     let s = settings_of c.args.office.now.setup c.args.office.now.controls in
-    let none : c.new-busy.result.items ≡ [] = search rules in
-    let found = calls.0 sound (subst (AreBusy s m c.args.t) (sym none) (none_busy s m c.args.t)) in
-    calls.1 sound (last_busy s m c.args.t _ _ c.in-Some.dial c.in-Some.ensures.items found.0))
+    let none : c.new.result.items ≡ [] = search rules in
+    let found = calls.0 sound (c.finder.ensures, subst (AreBusy s m c.args.t) (sym none) (none_busy s m c.args.t)) in
+    calls.1 sound found.0.0 (last_busy s m c.args.t _ _ c.in-Some.dial c.in-Some.ensures.items found.0.1))
