@@ -7,7 +7,6 @@ use Rattle.fax_http.proofs.ServingLemmas.{answers_one_more}
 use Rattle.fax_net.specs.History.{Answered, AreAnswered, At, Came, Dry, Ended, Failed, Held, IsNeverOver, IsOverAtLast, Left, Looked, Missed, Refused, Said, Step, Took, Waits, turns_of}
 use Rattle.fax_net.specs.Listening.{HasListened, listening}
 use Rattle.fax_net.specs.Many.{ServesMany}
-use Rattle.fax_net.specs.declared.sockets.Sockets.{Sockets}
 
 module _ {H : Type 0} (answers : Answering H) (over : H → Bool) (old : H) where
   -- the messages of a history were answered one after the other
@@ -63,12 +62,13 @@ module _ {H : Type 0} (answers : Answering H) (over : H → Bool) (old : H) wher
   over_at_last (Looked is_busy may_come ∷ earlier) new a = over_at_last earlier new a
 
 -- what was served is what it listened to
-pub has_listened : {W H : Type 0} (contents : W → Option (List ℕ)) (out out₂ : Watched W) (did : Sockets → Step → Sockets → Type 0) (answers : Answering H) (over : H → Bool)
-    (count : ℕ) (peers peers₂ : Sockets) (handler handler₂ : H) → Put contents out out₂ listening false → (s : ServesMany did answers over count peers handler peers₂ handler₂)
-    → HasListened contents out out₂ did count (turns_of s.history) (over handler₂)
-has_listened contents out out₂ did answers over count peers peers₂ handler handler₂ said s = record {
+pub has_listened : {W P H : Type 0} (contents : W → Option (List ℕ)) (out out₂ : Watched W) (opened : P → Type 0) (did : P → Step → P → Type 0) (answers : Answering H) (over : H → Bool)
+    (count : ℕ) (peers peers₂ : P) (handler handler₂ : H) → opened peers → Put contents out out₂ listening false → (s : ServesMany did answers over count peers handler peers₂ handler₂)
+    → HasListened contents out out₂ opened did count (turns_of s.history) (over handler₂)
+has_listened contents out out₂ opened did answers over count peers peers₂ handler handler₂ opens said s = record {
   said = said;
   start = peers;
+  opens = opens;
   last = peers₂;
   history = s.history;
   happens = s.runs.happens;

@@ -4,7 +4,7 @@ use Rattle.std.specs.Fmt.{digits}
 use Rattle.fax_http.specs.declared.answer.AnswerFault.TheVariants.{NoReply}
 use Rattle.fax_net.specs.Listening.{bind_line}
 use Rattle.fax_net.specs.Sendfax.{answer_line, refusal, refused_line}
-use Rattle.fax_net.specs.declared.sockets.BindFault.TheVariants.{Refused}
+use Rattle.fax_net.specs.declared.peers.BindFault.TheVariants.{Refused}
 use Rattle.fax_text.specs.declared.sendfax.SendFault.TheVariants.{Request}
 
 -- another fax under a number that was used

@@ -4,9 +4,8 @@ use Rattle.fax_http.specs.Conversation.{Turn}
 use Rattle.fax_http.specs.Device.{BrokeOff, Put}
 use Rattle.fax_http.specs.declared.device.Watched.{Watched}
 use Rattle.fax_net.specs.History.{Happens, IsOverAtLast, IsRight, Step, comings, looks, talk, turns_of}
-use Rattle.fax_net.specs.declared.sockets.BindFault.{BindFault}
-use Rattle.fax_net.specs.declared.sockets.BindFault.TheVariants.{Refused, NoMemory}
-use Rattle.fax_net.specs.declared.sockets.Sockets.{Sockets}
+use Rattle.fax_net.specs.declared.peers.BindFault.{BindFault}
+use Rattle.fax_net.specs.declared.peers.BindFault.TheVariants.{Refused, NoMemory}
 use Rattle.fax_ending.specs.Ending.{no_database, no_memory, write_failed}
 use Rattle.fax_text.specs.declared.status.Status.{Status}
 use Rattle.fax_text.specs.declared.status.Status.TheVariants.{Success, Fault, Usage, Unused, Later}
@@ -26,12 +25,13 @@ module _ {W : Type 0} (contents : W → Option (List ℕ)) (out out₂ : Watched
   SaidNothing line =
       ((out₂ ≡ out) × (((fault : BindFault) × (line ≡ bind_line fault)) ⊎ (line ≡ no_memory))) ⊎ (BrokeOff contents out out₂ listening × (line ≡ write_failed))
 
-  module _ (did : Sockets → Step → Sockets → Type 0) where
-    -- It said that it listens. So many connections came then, and each was served to its end; unless the store was shut, or it has looked at them 2 ^ 64 - 1 times. These are the messages of all, as they were answered.
+  module _ {P : Type 0} (opened : P → Type 0) (did : P → Step → P → Type 0) where
+    -- It opened the network, and said that it listens. So many connections came then, and each was served to its end; unless the store was shut, or it has looked at them 2 ^ 64 - 1 times. These are the messages of all, as they were answered.
     pub record HasListened (count : ℕ) (turns : List Turn) (shut : Bool) : Type 0 where
       pub said : Put contents out out₂ listening false
-      pub start : Sockets
-      pub last : Sockets
+      pub start : P
+      pub opens : opened start
+      pub last : P
       pub history : List Step
       pub happens : Happens did start history last
       pub right : IsRight count history

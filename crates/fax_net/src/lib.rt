@@ -21,5 +21,5 @@ mod timed;
 pub use breaks::Breaks;
 pub use exchanging::exchange;
 pub use listening::listen;
-pub use peers::{Coming, Moved, Peers};
-pub use sockets::Sockets;
+pub use peers::{BindFault, Coming, Moved, Network, Peers};
+pub use sockets::{MachineNetwork, Sockets};

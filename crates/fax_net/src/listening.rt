@@ -7,43 +7,39 @@ ghost use Rattle.fax_net.specs.Listening.{Listens, bind_line};
 ghost use Rattle.fax_ending.specs.Ending.{spoken};
 
 use crate::many::{free_places, serve_many};
-use crate::peers::Peers;
-use crate::sockets::{BindFault, Sockets};
+use crate::peers::{BindFault, Network, Peers};
 use fax_ending::Ending;
 use fax_http::{Handler, Watched};
 use fax_text::{ServePlan, Status};
+use std::alloc::Global;
 use std::io::Write;
 
-/// Listens, says so, and serves the connections. All memory for them is taken before.
-pub fn listen<'a, H: Handler, W: Write + Drop>(
-    rt: &HostRuntime,
+/// Listens on the network, says so, and serves the connections. All memory for them is taken before.
+pub fn listen<'a, P: Peers + Drop, N: Network<P> + Drop, H: Handler, W: Write + Drop>(
+    alloc: Global,
+    network: N,
     plan: ServePlan<'a>,
     handler: &mut H,
     out: &mut Watched<W>,
 ) -> Ending<'a>
     requires { IsFresh out.old }
     ensures served { (turns : List Turn)
-        × Listens W.contents out.old out.new ⟦<Sockets<'static> as Peers>⟧.did
+        × Listens W.contents out.old out.new N.opened P.did
         plan.entry.connections turns (H.over handler.new) result.status (spoken result)
         × Answers H.answers handler.old turns handler.new }
 {
-    let mut sockets = match Sockets::bind(rt, plan.address, plan.timeout) {
-        Ok(sockets) => sockets,
+    let mut peers = match network.bind(plan.address, plan.timeout) {
+        Ok(peers) => peers,
         Err(fault) => return bind_ending(fault),
     };
-    let Ok(mut links) = free_places(rt.alloc()) else {
+    let Ok(mut links) = free_places(alloc) else {
         return Ending::failed("faxqd: no memory");
     };
     let Ok(()) = out.put(b"faxqd: listening\n") else {
         return Ending::failed("faxqd: ended write-failed");
     };
-    serve_many(
-        &mut sockets,
-        links.as_mut_slice(),
-        plan.connections,
-        handler,
-    );
-    sockets.finish();
+    serve_many(&mut peers, links.as_mut_slice(), plan.connections, handler);
+    peers.finish();
     if handler.is_over() {
         return Ending::failed("faxqd: database");
     }

@@ -1,5 +1,8 @@
 //! Connections that are served side by side, as their server sees them.
 
+use std::alloc::AllocError;
+use std::io;
+
 /// What came of a read or a write.
 #[derive(Clone, Copy, Debug, PartialEq, Eq)]
 pub enum Moved {
@@ -24,7 +27,43 @@ pub enum Coming {
     Nobody,
 }
 
-/// Connections by their places. No call but `look` waits.
+/// Why there are no connections to serve.
+#[derive(Clone, Copy, Debug, PartialEq, Eq)]
+pub enum BindFault {
+    /// The address can't be listened on, or the system gives no means to wait.
+    Refused,
+    NoMemory,
+}
+
+impl From<io::Error> for BindFault {
+    fn from(_error: io::Error) -> BindFault {
+        BindFault::Refused
+    }
+}
+
+impl From<AllocError> for BindFault {
+    fn from(_error: AllocError) -> BindFault {
+        BindFault::NoMemory
+    }
+}
+
+/// Where connections come from.
+pub trait Network<P: Peers> {
+    ghost use Rattle.std.specs.Prelude.{IfOk};
+
+    // Where it listens, and nobody came yet.
+    ghost opened: { P → Type 0 };
+
+    /// Listens on the address. A peer may move nothing for so many seconds.
+    ///
+    /// # Errors
+    ///
+    /// The address can't be listened on, or memory is wanting.
+    fn bind(self, address: &str, timeout: u64) -> Result<P, BindFault>
+        ensures { IfOk result opened };
+}
+
+/// Connections by their places. No call but `look` and `finish` waits.
 pub trait Peers {
     ghost use Rattle.std.specs.Prelude.{◌++◌, ◌<◌, length};
     ghost use Rattle.fax_net.specs.History.{Step, Looked, At, Left};
@@ -61,4 +100,7 @@ pub trait Peers {
     /// Ends the connection, once its peer has what was written.
     fn leave(&mut self, place: usize)
         ensures { did self.old (At place Left) self.new };
+
+    /// Ends all connections but those that are leaving, and waits for these, for a second at most.
+    fn finish(&mut self);
 }

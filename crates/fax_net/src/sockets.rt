@@ -1,4 +1,7 @@
 //! The sockets of a server: where connections come from, which of them are ready, and who has to leave.
+//!
+//! What is proved of a server is proved of any [`Peers`]. That [`Sockets`] are such is trusted: no clause can say what the
+//! system's sockets do. Each method says for what it is trusted, and which check tries it.
 
 ghost use Rattle.std.specs.Prelude.{◌≡◌, ◌++◌, false, length, IfOk};
 ghost use Rattle.fax_net.specs.Patience.{IsFor};
@@ -7,7 +10,7 @@ ghost use Rattle.fax_net.specs.Sockets.{IsFree};
 
 use crate::many::PLACES;
 use crate::patience::{Patience, shorter};
-use crate::peers::{Coming, Moved, Peers};
+use crate::peers::{BindFault, Coming, Moved, Network, Peers};
 use crate::seat::Seat;
 use mio::net::{TcpListener, TcpStream};
 use mio::{Events, Interest, Poll, Token};
@@ -37,26 +40,6 @@ const ROUNDING: u64 = 1;
 /// The most looks while the last peers leave.
 const LAST_LOOKS: u32 = 100_000;
 
-/// Why there are no sockets.
-#[derive(Clone, Copy)]
-pub(crate) enum BindFault {
-    /// The address can't be listened on, or the system gives no means to wait.
-    Refused,
-    NoMemory,
-}
-
-impl From<io::Error> for BindFault {
-    fn from(_error: io::Error) -> BindFault {
-        BindFault::Refused
-    }
-}
-
-impl From<AllocError> for BindFault {
-    fn from(_error: AllocError) -> BindFault {
-        BindFault::NoMemory
-    }
-}
-
 /// A listening socket, and the connections that came, each at its place.
 #[derive(Drop)]
 pub struct Sockets<'r> {
@@ -79,11 +62,7 @@ pub struct Sockets<'r> {
 
 impl<'r> Sockets<'r> {
     /// Listens on the address. A peer may move nothing for so many seconds.
-    pub(crate) fn bind(
-        rt: &'r HostRuntime,
-        address: &str,
-        timeout: u64,
-    ) -> Result<Sockets<'r>, BindFault>
+    fn bind(rt: &'r HostRuntime, address: &str, timeout: u64) -> Result<Sockets<'r>, BindFault>
         ensures { IfOk result (λ sockets. IsFor timeout sockets.patience) }
     {
         let poll = Poll::new(rt)?;
@@ -103,21 +82,6 @@ impl<'r> Sockets<'r> {
             retry: None,
             closing: None,
         })
-    }
-
-    /// Ends all connections but those that are leaving, and waits for these, for a second at most.
-    pub(crate) fn finish(&mut self) {
-        for place in 0..self.seats.len() {
-            if !self.is_leaving(place) {
-                self.free(place);
-            }
-        }
-        for _ in 0..LAST_LOOKS {
-            if !self.has_somebody() {
-                return;
-            }
-            self.look(false, false);
-        }
     }
 
     /// The machine's clock, or its last answer where that can't be read.
@@ -333,12 +297,37 @@ impl<'r> Sockets<'r> {
     }
 }
 
+/// The network of this machine.
+#[derive(Drop)]
+pub struct MachineNetwork<'r> {
+    rt: &'r HostRuntime,
+}
+
+impl<'r> MachineNetwork<'r> {
+    pub fn new(rt: &'r HostRuntime) -> MachineNetwork<'r> {
+        MachineNetwork { rt }
+    }
+}
+
+impl<'r> Network<Sockets<'r>> for MachineNetwork<'r> {
+    ghost use Rattle.std.specs.Prelude.{⊤};
+
+    // Where it listens, and who comes, is not known here.
+    ghost opened = { λ sockets. ⊤ };
+
+    // Trusted to listen on that address alone: `checks/run server.addresses server.two-addresses`.
+    fn bind(self, address: &str, timeout: u64) -> Result<Sockets<'r>, BindFault> {
+        Sockets::bind(self.rt, address, timeout)
+    }
+}
+
 impl Peers for Sockets<'_> {
     ghost use Rattle.std.specs.Prelude.{⊤};
 
     // What peers do is not known here.
     ghost did = { λ old step new. ⊤ };
 
+    // Trusted to wait until a connection is ready or its time is over, and no longer: `checks/run peers.idle server.waiting`.
     fn look(&mut self, is_busy: bool, is_admitting: bool) {
         self.ask_anew();
         let wait = if is_busy {
@@ -362,6 +351,7 @@ impl Peers for Sockets<'_> {
         }
     }
 
+    // Trusted to give the place to one that comes, and to count each once: `checks/run server.at-once server.count peers.misses`.
     fn admit(&mut self, place: usize) -> Coming {
         if !self.may_admit(place) {
             return Coming::Nobody;
@@ -379,6 +369,7 @@ impl Peers for Sockets<'_> {
         }
     }
 
+    // Trusted to read what that peer says next, each byte once: `checks/run server.pieces server.thousand`.
     fn read(&mut self, place: usize, room: &mut [u8]) -> Moved
         ensures within { IsWithin result (length room.new) }
         ensures freed { result ≡ Moved.Failed → IsFree self.new.seats.items place }
@@ -394,6 +385,7 @@ impl Peers for Sockets<'_> {
         moved
     }
 
+    // Trusted to hand that peer the first of these bytes, as many as it says: `checks/run server.pieces peers.unread`.
     fn write(&mut self, place: usize, front: &[u8], back: &[u8]) -> Moved
         ensures within { IsWithin result (length (front.now ++ back.now)) }
         ensures freed { result ≡ Moved.Failed → IsFree self.new.seats.items place }
@@ -425,6 +417,7 @@ impl Peers for Sockets<'_> {
         stays
     }
 
+    // Trusted to end the connection once the peer has what was written: `checks/run server.last-messages server.leaving`.
     fn leave(&mut self, place: usize) {
         let now = self.read_clock();
         let stays = match self.seats.get_mut(place) {
@@ -433,6 +426,21 @@ impl Peers for Sockets<'_> {
         };
         if !stays {
             self.free(place);
+        }
+    }
+
+    // Trusted to end all connections, and to wait a second at most: `checks/run server.stops peers.last`.
+    fn finish(&mut self) {
+        for place in 0..self.seats.len() {
+            if !self.is_leaving(place) {
+                self.free(place);
+            }
+        }
+        for _ in 0..LAST_LOOKS {
+            if !self.has_somebody() {
+                return;
+            }
+            self.look(false, false);
         }
     }
 }

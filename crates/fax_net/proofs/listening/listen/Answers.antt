@@ -10,8 +10,8 @@ returns g c =
     let s = c.serve_many.ensures in record {
       served = (
         turns_of s.history,
-        subst (λ status. Listens g.W.Write.contents c.args.out.now c.put.new.self _ c.args.plan.connections (turns_of s.history) (g.H.Handler.over c.serve_many.new.handler) status (spoken c.well.result)) (sym c.well.ensures.status) (
-          has_listened g.W.Write.contents c.args.out.now c.put.new.self _ g.H.Handler.answers g.H.Handler.over _ _ _ c.args.handler.now c.serve_many.new.handler c.in-Ok-put.ensures.ok s,
+        subst (λ status. Listens g.W.Write.contents c.args.out.now c.put.new.self g.N.Network.opened g.P.Peers.did c.args.plan.connections (turns_of s.history) (g.H.Handler.over c.serve_many.new.handler) status (spoken c.well.result)) (sym c.well.ensures.status) (
+          has_listened g.W.Write.contents c.args.out.now c.put.new.self g.N.Network.opened g.P.Peers.did g.H.Handler.answers g.H.Handler.over _ _ _ c.args.handler.now c.serve_many.new.handler c.in-Ok.ensures c.in-Ok-put.ensures.ok s,
           sym c.is_over.ensures ∙ c.if-is_over.false,
           c.well.ensures.says,
         ),
@@ -24,9 +24,9 @@ returns-then-is_over g c =
     let s = c.serve_many.ensures in record {
       served = (
         turns_of s.history,
-        subst (λ status. Listens g.W.Write.contents c.args.out.now c.put.new.self _ c.args.plan.connections (turns_of s.history) (g.H.Handler.over c.serve_many.new.handler) status (spoken c.failed-then-is_over.result)) (sym c.failed-then-is_over.ensures.status)
+        subst (λ status. Listens g.W.Write.contents c.args.out.now c.put.new.self g.N.Network.opened g.P.Peers.did c.args.plan.connections (turns_of s.history) (g.H.Handler.over c.serve_many.new.handler) status (spoken c.failed-then-is_over.result)) (sym c.failed-then-is_over.ensures.status)
             (inr (
-              has_listened g.W.Write.contents c.args.out.now c.put.new.self _ g.H.Handler.answers g.H.Handler.over _ _ _ c.args.handler.now c.serve_many.new.handler c.in-Ok-put.ensures.ok s,
+              has_listened g.W.Write.contents c.args.out.now c.put.new.self g.N.Network.opened g.P.Peers.did g.H.Handler.answers g.H.Handler.over _ _ _ c.args.handler.now c.serve_many.new.handler c.in-Ok.ensures c.in-Ok-put.ensures.ok s,
               sym c.is_over.ensures ∙ c.if-is_over.true,
               c.failed-then-is_over.ensures.says,
             )),
