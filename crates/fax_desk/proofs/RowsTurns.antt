@@ -45,9 +45,19 @@ module _ {C : Type 0} (gives : C → List ℕ → ℕ → C → Type 0) (s : Set
 
   -- one message is a session of its arrival, with its reply, that was not broken off
   session_row : TurnsAreASession gives → (start end : Start) (clock : C) (x : Turn) → AreTurns gives s start clock (x ∷ []) end
-      → (arrivals : List Arrival) × AreArrivals (x ∷ []) arrivals × IsSession start (session_of s arrivals (x.reply ∷ []) Nothing) end
+      → (arrivals : List Arrival) × AreArrivals gives clock (x ∷ []) arrivals × IsSession start (session_of s arrivals (x.reply ∷ []) Nothing) end
   session_row law start end clock x turns = law s start end clock (x ∷ []) turns
 
--- an arrival is that of its message
-arrival_row : (x : Turn) (a : Arrival) → AreArrivals (x ∷ []) (a ∷ []) → (moment : ℕ) × IsArrival x.head x.body moment a
-arrival_row x a (its, rest) = its
+  -- an arrival is that of its message, at the moment that the clock gave
+  arrival_row : (clock : C) (x : Turn) (a : Arrival) → AreArrivals gives clock (x ∷ []) (a ∷ [])
+      → (moment : ℕ) × (later : C) × gives clock (said_in x) moment later × IsArrival x.head x.body moment a
+  arrival_row clock x a (moment, later, given, its, rest) = (moment, later, given, its)
+
+  -- the clock goes on from the first message to the second
+  moments_row : (clock : C) (x y : Turn) (a b : Arrival) → AreArrivals gives clock (x ∷ y ∷ []) (a ∷ b ∷ [])
+      → (one : ℕ) × (between : C) × (two : ℕ) × (last : C) × gives clock (said_in x) one between × gives between (said_in y) two last × IsArrival y.head y.body two b
+  moments_row clock x y a b (one, between, first, is, (two, last, second, its, rest)) = (one, between, two, last, first, second, its)
+
+  -- each message has an arrival, and no arrival is without one
+  no_arrival_row : (clock : C) (x : Turn) (a : Arrival) → (¬ AreArrivals gives clock (x ∷ []) []) × (¬ AreArrivals gives clock [] (a ∷ []))
+  no_arrival_row clock x a = (λ are. are, λ are. are)

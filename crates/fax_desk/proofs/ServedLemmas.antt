@@ -43,7 +43,7 @@ module _ {C : Type 0} (gives : C → List ℕ → ℕ → C → Type 0) (s : Set
   -- messages that were answered behind a run of these arrivals, and the run with theirs
   record GoesOn (arrivals : List Arrival) (replies : List Response) (clock : C) (here : Start) (turns : List Turn) (new : State) : Type 0 where
     more : List Arrival
-    are : AreArrivals turns more
+    are : AreArrivals gives clock turns more
     all : List Arrival
     told : List Response
     all_are : all ≡ arrivals ++ more
@@ -98,7 +98,7 @@ module _ {C : Type 0} (gives : C → List ℕ → ℕ → C → Type 0) (s : Set
         } in
         record {
           more = a ∷ more.more;
-          are = ((it.0, comes.1), more.are);
+          are = (it.0, clock_of next, it.1, comes.1, more.are);
           all = more.all;
           told = more.told;
           all_are = more.all_are ∙ append_assoc arrivals (a ∷ []) more.more;

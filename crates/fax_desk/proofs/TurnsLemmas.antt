@@ -12,13 +12,13 @@ use Rattle.fax_run.specs.Verdict.{Verdict, reply_of, verdict}
 use Rattle.fax_run.specs.declared.arrival.Arrival.{Arrival}
 use Rattle.fax_run.proofs.RunLemmas.{runs_thread}
 use Rattle.fax_desk.specs.Desk.{IsArrival}
-use Rattle.fax_desk.specs.Turns.{AreArrivals, AreTurns, TurnsAreASession}
+use Rattle.fax_desk.specs.Turns.{AreArrivals, AreTurns, TurnsAreASession, said_in}
 
 module _ {C : Type 0} (gives : C → List ℕ → ℕ → C → Type 0) (s : Settings) (first : Start) where
   -- what was heard of messages that go on behind a past, and where it leads
-  record GoesOn (past : List Reading) (turns : List Turn) (end : Start) : Type 0 where
+  record GoesOn (past : List Reading) (clock : C) (turns : List Turn) (end : Start) : Type 0 where
     arrivals : List Arrival
-    are : AreArrivals turns arrivals
+    are : AreArrivals gives clock turns arrivals
     heard : List Reading
     answered : IsRun s first past arrivals (map (λ (turn : Turn). turn.reply) turns) heard
     leads : end ≡ end_of s first heard
@@ -29,36 +29,36 @@ module _ {C : Type 0} (gives : C → List ℕ → ℕ → C → Type 0) (s : Set
   leads_on past here next v r at is leads = leads ∙ ap (left_of here) is ∙ ap (λ (e : Start). left_of e (verdict s e.queue e.kept r)) at ∙ sym (runs_thread s first past r)
 
   -- one more message in front was heard, and answered by its verdict
-  heard_first : (past : List Reading) (turn : Turn) (turns : List Turn) (here end : Start) (moment : ℕ) (a : Arrival) (v : Verdict) (r : Reading)
-      → IsArrival turn.head turn.body moment a → IsReading a r → v ≡ verdict s here.queue here.kept r → turn.reply ≡ reply_of v → here ≡ end_of s first past
-      → GoesOn (r ∷ past) turns end → GoesOn past (turn ∷ turns) end
-  heard_first past turn turns here end moment a v r comes reads is told at rest = record {
+  heard_first : (past : List Reading) (clock later : C) (turn : Turn) (turns : List Turn) (here end : Start) (moment : ℕ) (a : Arrival) (v : Verdict) (r : Reading)
+      → gives clock (said_in turn) moment later → IsArrival turn.head turn.body moment a → IsReading a r → v ≡ verdict s here.queue here.kept r → turn.reply ≡ reply_of v → here ≡ end_of s first past
+      → GoesOn (r ∷ past) later turns end → GoesOn past clock (turn ∷ turns) end
+  heard_first past clock later turn turns here end moment a v r given comes reads is told at rest = record {
     arrivals = a ∷ rest.arrivals;
-    are = ((moment, comes), rest.are);
+    are = (moment, later, given, comes, rest.are);
     heard = rest.heard;
     answered = inr (r, reads, told ∙ ap reply_of is ∙ ap (λ (e : Start). reply_of (verdict s e.queue e.kept r)) at, rest.answered);
     leads = rest.leads;
   }
 
   -- or it was answered 27, and not heard
-  lost_first : (past : List Reading) (turn : Turn) (turns : List Turn) (end : Start) (moment : ℕ) (a : Arrival)
-      → IsArrival turn.head turn.body moment a → turn.reply ≡ refused_response Unavailable NoKeys → GoesOn past turns end → GoesOn past (turn ∷ turns) end
-  lost_first past turn turns end moment a comes gone rest = record {
+  lost_first : (past : List Reading) (clock later : C) (turn : Turn) (turns : List Turn) (end : Start) (moment : ℕ) (a : Arrival)
+      → gives clock (said_in turn) moment later → IsArrival turn.head turn.body moment a → turn.reply ≡ refused_response Unavailable NoKeys → GoesOn past later turns end → GoesOn past clock (turn ∷ turns) end
+  lost_first past clock later turn turns end moment a given comes gone rest = record {
     arrivals = a ∷ rest.arrivals;
-    are = ((moment, comes), rest.are);
+    are = (moment, later, given, comes, rest.are);
     heard = rest.heard;
     answered = inl (gone, rest.answered);
     leads = rest.leads;
   }
 
   -- messages that are answered behind a past go on so
-  goes_on : (past : List Reading) (clock : C) (turns : List Turn) (here end : Start) → here ≡ end_of s first past → AreTurns gives s here clock turns end → GoesOn past turns end
+  goes_on : (past : List Reading) (clock : C) (turns : List Turn) (here end : Start) → here ≡ end_of s first past → AreTurns gives s here clock turns end → GoesOn past clock turns end
   goes_on past clock [] here end at is = record { arrivals = []; are = tt; heard = past; answered = refl; leads = is ∙ at }
   goes_on past clock (turn ∷ turns) here end at (next, later, it, behind) = elim it.answered [
     | inl by ↦
-        heard_first past turn turns here end it.moment it.arrival by.0 by.1.0 it.comes by.1.1 by.1.2 by.2 at
+        heard_first past clock later turn turns here end it.moment it.arrival by.0 by.1.0 it.given it.comes by.1.1 by.1.2 by.2 at
         (goes_on (by.1.0 ∷ past) later turns next end (leads_on past here next by.0 by.1.0 at by.1.2 by.3) behind)
-    | inr lost ↦ lost_first past turn turns end it.moment it.arrival it.comes lost.0 (goes_on past later turns next end (lost.1 ∙ at) behind)
+    | inr lost ↦ lost_first past clock later turn turns end it.moment it.arrival it.given it.comes lost.0 (goes_on past later turns next end (lost.1 ∙ at) behind)
   ]
 
 pub turns_are_a_session : {C : Type 0} (gives : C → List ℕ → ℕ → C → Type 0) → TurnsAreASession gives

@@ -1,6 +1,5 @@
 -- Messages that the queue answers one after the other, each at the moment that a clock gives. They are a session.
-use Rattle.std.specs.Prelude.{◌≡◌, ◌⊎◌, ℕ, List, [], ◌∷◌, map, codes}
-use Rattle.std.specs.List.{AllZip}
+use Rattle.std.specs.Prelude.{◌≡◌, ◌⊎◌, ⊤, ℕ, List, [], ◌∷◌, map, codes}
 use Rattle.sqlite.specs.State.{State}
 use Rattle.fax_job.specs.declared.refusal.Refusal.TheVariants.{Unavailable}
 use Rattle.fax_ask.specs.Response.{Response, refused_response}
@@ -21,6 +20,14 @@ use Rattle.fax_desk.specs.Desk.{IsArrival}
 abbrev pub said_in : Turn → List ℕ
 said_in turn = sole (values_of (codes "Fax-Moment") (fields_of turn.head))
 
+-- these are their arrivals, each at the moment that the clock gave then
+abbrev pub AreArrivals : {C : Type 0} → (C → List ℕ → ℕ → C → Type 0) → C → List Turn → List Arrival → Type 0
+AreArrivals gives clock [] [] = ⊤
+AreArrivals gives clock [] (a ∷ arrivals) = ⊥
+AreArrivals gives clock (turn ∷ turns) [] = ⊥
+AreArrivals {C} gives clock (turn ∷ turns) (a ∷ arrivals) =
+    (moment : ℕ) × (later : C) × gives clock (said_in turn) moment later × IsArrival turn.head turn.body moment a × AreArrivals gives later turns arrivals
+
 module _ {C : Type 0} (gives : C → List ℕ → ℕ → C → Type 0) (settings : Settings) where
   -- A message is answered as an arrival at the moment that the clock gives: by its verdict, which leads on; or memory or the store gave out, and nothing changes.
   pub record IsTurn (start : Start) (clock : C) (turn : Turn) (next : Start) (later : C) : Type 0 where
@@ -37,10 +44,6 @@ module _ {C : Type 0} (gives : C → List ℕ → ℕ → C → Type 0) (setting
   AreTurns start clock [] end = end ≡ start
   AreTurns start clock (turn ∷ turns) end = (next : Start) × (later : C) × IsTurn start clock turn next later × AreTurns next later turns end
 
--- these are their arrivals, each at a moment
-abbrev pub AreArrivals : List Turn → List Arrival → Type 0
-AreArrivals turns arrivals = AllZip (λ turn a. (moment : ℕ) × IsArrival turn.head turn.body moment a) turns arrivals
-
 -- what was replied to them
 abbrev pub replies_of : List Turn → List Response
 replies_of turns = map (λ turn. turn.reply) turns
@@ -48,12 +51,12 @@ replies_of turns = map (λ turn. turn.reply) turns
 -- such messages are a session: their arrivals, with their replies
 abbrev pub TurnsAreASession : {C : Type 0} → (C → List ℕ → ℕ → C → Type 0) → Type 0
 TurnsAreASession {C} gives = (settings : Settings) (start end : Start) (clock : C) (turns : List Turn) → AreTurns gives settings start clock turns end
-    → (arrivals : List Arrival) × AreArrivals turns arrivals × IsSession start (session_of settings arrivals (replies_of turns) Nothing) end
+    → (arrivals : List Arrival) × AreArrivals gives clock turns arrivals × IsSession start (session_of settings arrivals (replies_of turns) Nothing) end
 
 -- The messages were answered from this start on, and are a session, also where it was broken off. The tables mean the sound queue that it leads to.
 pub record AreServed {C : Type 0} (gives : C → List ℕ → ℕ → C → Type 0) (settings : Settings) (start : Start) (clock : C) (turns : List Turn) (old new : State) : Type 0 where
   pub arrivals : List Arrival
-  pub are : AreArrivals turns arrivals
+  pub are : AreArrivals gives clock turns arrivals
   pub session : RunsAsSession settings start arrivals (replies_of turns) old new
   pub answered : AreTurns gives settings start clock turns session.left
   pub sound : Sound session.left.queue

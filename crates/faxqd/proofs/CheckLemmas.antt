@@ -1,10 +1,16 @@
 -- What a check tells of what the files held.
-use Rattle.std.proofs.Common.{◌≡◌, ◌==◌, inl, inr, refl, sym, subst, ℕ, List, [], ◌∷◌, map, Bool, if◌then◌else◌, Option, Some, None, Result, Ok, Err}
+use Rattle.std.proofs.Common.{◌≡◌, ◌==◌, inl, inr, refl, sym, subst, ℕ, List, [], ◌∷◌, map, Bool, if◌then◌else◌, Option, Some, None, Result, Ok, Err, arith}
 use Rattle.std.proofs.lemmas.Bool.{cases_Bool}
-use Rattle.std.specs.Prelude.{IfOk, MatchOption, false}
+use Rattle.std.specs.Prelude.{IfOk, IsTrue, MatchOption, false}
 use Rattle.sqlite.specs.Effect.{Database}
 use Rattle.sqlite.specs.Order.{Row, column}
+use Rattle.sqlite.specs.Files.{file_state}
+use Rattle.sqlite.specs.Held.{Held, AreDatabases}
 use Rattle.sqlite.specs.State.{State, HasCleanDisk}
+use Rattle.sqlite_disk.specs.declared.Disk.{Ghosts}
+use Rattle.sqlite_store.specs.FileStore.{faults, is_shielded, recovers, view}
+use Rattle.sqlite_store.specs.declared.store.FileStore.{FileStore}
+use Rattle.sqlite_trees.specs.View.{IsClean, IsQuiet}
 use Rattle.sqlite.specs.declared.types.Value.{Value}
 use Rattle.sqlite_wal.specs.Recovery.{Image}
 use Rattle.fax_check.proofs.ConsistentLemmas.{empty_consistent}
@@ -27,6 +33,7 @@ use Rattle.fax_tables.specs.Tables.{RowsMean, TablesMean, meta_as, version_of}
 use Rattle.fax_tables.specs.declared.fault.StoreFault.{StoreFault}
 use Rattle.fax_text.specs.declared.status.Status.{Status}
 use Rattle.fax_text.specs.declared.status.Status.TheVariants.{Success, Fault, Usage, Unused, Later}
+use Rattle.faxqd.proofs.RestartsLemmas.{keeps_queue}
 use Rattle.faxqd.specs.Check.{Checks, ChecksBy, HasNoDatabase, IsTrueOf, IsVerdictOn, MeanSound, Prints, StandByRowid, sound_line}
 
 -- ---- rows that were taken
@@ -83,21 +90,18 @@ no_flaw opened new (Some flaw) means it clean =
 -- of a queue's rows what is told is true
 is_true : (found : Database) (opened new : State) (verdict : Option Flaw) → IsOurs found → HasTaken opened found → Serves opened
     → ((m : Queue) (k : Ledger) → AreOurs found.schema → RowsMean found m k → Means opened m k)
-    → Tells opened new (Ok verdict) IsChecked → HasCleanDisk new → IsTrueOf found new.now verdict
+    → Tells opened new (Ok verdict) IsChecked → HasCleanDisk new → IsTrueOf found opened.now verdict
 is_true found opened new None ours has serves means it clean = λ by.
-    let same = (it.reads has.taken.schema_is clean).0.now_is in
-    let here : StandByRowid found opened.now = subst (λ (now : Database). StandByRowid found now) same by in
-    found_sound found opened.now ours has.taken here (it.tells (taken_stored found opened.now ours has.taken here) clean)
+    found_sound found opened.now ours has.taken by (it.tells (taken_stored found opened.now ours has.taken by) clean)
 is_true found opened new (Some flaw) ours has serves means it clean = λ mean.
     let sound : IsSound opened.now = (mean.0, mean.1, (means mean.0 mean.1 ours.schema_is mean.2 serves).means, mean.3) in
     it.tells (sound_stored opened.now sound) clean sound
 
 -- so it is of whatever the files held
-verdict_on : (image : Image) (opened new : State) (verdict : Result (Option Flaw) StoreFault) → (HasCleanDisk opened → IsFound image opened)
-    → Tells opened new verdict IsChecked → HasCleanDisk new → IfOk verdict (IsVerdictOn image new.now)
-verdict_on image opened new (Err fault) found it clean = tt
-verdict_on image opened new (Ok verdict) found it clean =
-    let was = found (it.clean clean) in
+verdict_on : (image : Image) (opened new : State) (verdict : Result (Option Flaw) StoreFault) → IsFound image opened
+    → Tells opened new verdict IsChecked → HasCleanDisk new → IfOk verdict (IsVerdictOn image opened.now)
+verdict_on image opened new (Err fault) was it clean = tt
+verdict_on image opened new (Ok verdict) was it clean =
     record {
       found = was.found;
       held = was.held;
@@ -111,10 +115,23 @@ verdict_on image opened new (Ok verdict) found it clean =
 -- ---- the end
 
 module _ {W : Type 0} (contents : W → Option (List ℕ)) (out out₂ : Watched W) (image : Image) where
-  -- what is told of the opened database is told of its files
-  pub checks_by : (status : Status) (line : List ℕ) (opened new : State) (verdict : Result (Option Flaw) StoreFault) → (HasCleanDisk opened → IsFound image opened)
-      → Tells opened new verdict IsChecked → Prints contents out out₂ verdict status line → ChecksBy contents out out₂ image status line new
-  checks_by status line opened new verdict found it prints = record { verdict = verdict; prints = prints; held = verdict_on image opened new verdict found it }
+  -- what is told of the opened database is told of its files, and these keep their queue
+  pub checks_by : {D : Type 0} {g : Ghosts D} (status : Status) (line : List ℕ) (opened conn : Held (FileStore D g)) (verdict : Result (Option Flaw) StoreFault)
+      (store : FileStore D g) → (HasCleanDisk (file_state opened) → IsFound image (file_state opened))
+      → Tells (file_state opened) (file_state conn) verdict IsChecked → Prints contents out out₂ verdict status line
+      → (IsClean (view store) → IsTrue (view store).is_numbered) → (IsClean (view store) → AreDatabases (recovers store))
+      → IsQuiet view faults recovers is_shielded conn.store store → ChecksBy contents out out₂ image status line store
+  checks_by status line opened conn verdict store found it prints numbered databases quiet =
+      let before : IsClean (view store) → HasCleanDisk (file_state conn) = (λ clean. let less = quiet.clean in omega (arith, clean, less)) in
+      record {
+        verdict = verdict;
+        prints = prints;
+        held = λ clean.
+            let was = found (it.clean (before clean)) in
+            (opened, was, verdict_on image (file_state opened) (file_state conn) verdict was it (before clean));
+        leaves = λ clean. keeps_queue image conn store (file_state opened) (numbered clean) (databases clean) quiet.outcomes (before clean)
+            (found (it.clean (before clean))) (λ m k sound means. it.crash);
+      }
 
   -- a check succeeds where it prints that there is no flaw
   well : (verdict : Result (Option Flaw) StoreFault) (line : List ℕ) → Prints contents out out₂ verdict Success line → Put contents out out₂ sound_line false × (line ≡ [])
@@ -140,16 +157,17 @@ module _ {W : Type 0} (contents : W → Option (List ℕ)) (out out₂ : Watched
   never_later (Ok (Some flaw)) line prints = prints
   never_later (Err fault) line prints = prints
 
-  checks_of : (status : Status) (line : List ℕ) (new : State) → ChecksBy contents out out₂ image status line new → Checks contents out out₂ status line
-  checks_of Success line new by = well by.verdict line by.prints
-  checks_of Fault line new by = inr (by.verdict, by.prints)
-  checks_of Usage line new by = no_usage by.verdict line by.prints
-  checks_of Unused line new by = all_used by.verdict line by.prints
-  checks_of Later line new by = never_later by.verdict line by.prints
+  checks_of : {D : Type 0} {g : Ghosts D} (status : Status) (line : List ℕ) (store : FileStore D g) → ChecksBy contents out out₂ image status line store
+      → Checks contents out out₂ status line
+  checks_of Success line store by = well by.verdict line by.prints
+  checks_of Fault line store by = inr (by.verdict, by.prints)
+  checks_of Usage line store by = no_usage by.verdict line by.prints
+  checks_of Unused line store by = all_used by.verdict line by.prints
+  checks_of Later line store by = never_later by.verdict line by.prints
 
   -- however it ends, that is its end
-  pub checks_with : {Q : Type 0} (state_of : Q → State) (status : Status) (line : List ℕ) (left : Option Q)
-      → MatchOption left ((status ≡ Fault) × (out₂ ≡ out) × HasNoDatabase line) (λ conn. ChecksBy contents out out₂ image status line (state_of conn))
+  pub checks_with : {D : Type 0} {g : Ghosts D} (status : Status) (line : List ℕ) (left : Option (FileStore D g))
+      → MatchOption left ((status ≡ Fault) × (out₂ ≡ out) × HasNoDatabase line) (λ store. ChecksBy contents out out₂ image status line store)
       → Checks contents out out₂ status line
-  checks_with state_of status line (Some conn) by = checks_of status line (state_of conn) by
-  checks_with state_of status line None (fault, same, none) = subst (λ s. Checks contents out out₂ s line) (sym fault) (inl (same, none))
+  checks_with status line (Some store) by = checks_of status line store by
+  checks_with status line None (fault, same, none) = subst (λ s. Checks contents out out₂ s line) (sym fault) (inl (same, none))

@@ -1,7 +1,13 @@
 -- How a listing ends the command `list`.
-use Rattle.std.proofs.Common.{◌≡◌, ◌∙◌, inl, inr, sym, subst, ℕ, List, Option, Some, None, Ok}
-use Rattle.std.specs.Prelude.{MatchOption}
+use Rattle.std.proofs.Common.{◌≡◌, inl, inr, sym, subst, ℕ, List, Option, Some, None, Ok, arith}
+use Rattle.std.specs.Prelude.{IsTrue, MatchOption}
+use Rattle.sqlite.specs.Files.{file_state}
+use Rattle.sqlite.specs.Held.{Held, AreDatabases}
 use Rattle.sqlite.specs.State.{State, HasCleanDisk}
+use Rattle.sqlite_disk.specs.declared.Disk.{Ghosts}
+use Rattle.sqlite_store.specs.FileStore.{faults, is_shielded, recovers, view}
+use Rattle.sqlite_store.specs.declared.store.FileStore.{FileStore}
+use Rattle.sqlite_trees.specs.View.{IsClean, IsQuiet}
 use Rattle.sqlite_wal.specs.Recovery.{Image}
 use Rattle.fax_ask.specs.Response.{Response}
 use Rattle.fax_core.specs.Ledger.{Ledger, empty_ledger}
@@ -14,7 +20,8 @@ use Rattle.fax_desk.specs.Replaying.{settings_in}
 use Rattle.fax_files.specs.Database.{IsFound}
 use Rattle.fax_http.specs.Clock.{IsMoment}
 use Rattle.fax_http.specs.declared.device.Watched.{Watched}
-use Rattle.fax_store.specs.Store.{Means, Stays}
+use Rattle.fax_store.specs.Store.{CommitsNothing, Means, Stays}
+use Rattle.faxqd.proofs.RestartsLemmas.{keeps_queue}
 use Rattle.fax_text.specs.declared.list_words.ListPlan.{ListPlan}
 use Rattle.faxqd.specs.NoQueue.{HasNoQueue}
 use Rattle.faxqd.specs.List.{IsHeldIn, IsReply, IsSeen, Lists, ListsBy, Shows}
@@ -24,8 +31,9 @@ use Rattle.fax_text.specs.declared.status.Status.TheVariants.{Success, Fault, Us
 
 -- a reply is seen where the rows stay, and it is that of each sound queue that they mean
 pub is_seen : (s : Settings) (moment : ℕ) (old new : State) (reply : Response) → Stays old new → (HasCleanDisk new → HasCleanDisk old)
-    → ((m : Queue) (k : Ledger) → Sound m → Means old m k → HasCleanDisk new → IsReply s moment m k new reply) → IsSeen s moment old new reply
-is_seen s moment old new reply stays clean seen = record { stays = stays; clean = clean; seen = seen }
+    → ((m : Queue) (k : Ledger) → Sound m → Means old m k → HasCleanDisk new → IsReply s moment m k new reply)
+    → ((m : Queue) (k : Ledger) → Sound m → Means old m k → CommitsNothing old new) → IsSeen s moment old new reply
+is_seen s moment old new reply stays clean seen crash = record { stays = stays; clean = clean; seen = seen; crash = crash }
 
 -- the queue of what the files held is the one that is listed
 listed_by : (image : Image) (s : Settings) (moment : ℕ) (opened new : State) (reply : Response) → (HasCleanDisk opened → IsFound image opened)
@@ -44,34 +52,45 @@ listed_by image s moment opened new reply found is clean =
 
 module _ {W : Type 0} (contents : W → Option (List ℕ)) (out out₂ : Watched W) (image : Image) (plan : ListPlan) where
   -- a listing that is shown is of the files that the plan names
-  pub lists_by : (status : Status) (line : List ℕ) (said held left : Office) (moment : ℕ) (opened new : State) → ComesOf plan.files (Ok said) → held ≡ said → left ≡ held
-      → IsMoment plan.moment moment → (HasCleanDisk opened → IsFound image opened) → Shows contents out out₂ (settings_in held) moment opened new status line
-      → ListsBy contents out out₂ image plan status line left new
-  lists_by status line said held left moment opened new comes is same its found (reply, seen, prints) = record {
-    comes = subst (λ (o : Office). ComesOf plan.files (Ok o)) (sym (same ∙ is)) comes;
-    moment = moment;
-    its = its;
-    reply = reply;
-    prints = prints;
-    held = λ clean. subst (λ o. IsHeldIn image (settings_in o) moment new reply) (sym same)
-        (listed_by image (settings_in held) moment opened new reply found seen clean);
-  }
+  pub lists_by : {D : Type 0} {g : Ghosts D} (status : Status) (line : List ℕ) (said held : Office) (moment : ℕ) (opened : State) (conn : Held (FileStore D g))
+      (store : FileStore D g) → ComesOf plan.files (Ok said) → held ≡ said
+      → IsMoment plan.moment moment → (HasCleanDisk opened → IsFound image opened) → Shows contents out out₂ (settings_in held) moment opened (file_state conn) status line
+      → (IsClean (view store) → IsTrue (view store).is_numbered) → (IsClean (view store) → AreDatabases (recovers store))
+      → IsQuiet view faults recovers is_shielded conn.store store → ListsBy contents out out₂ image plan status line store
+  lists_by status line said held moment opened conn store comes is its found (reply, seen, prints) numbered databases quiet =
+      let before : IsClean (view store) → HasCleanDisk (file_state conn) = (λ clean. let less = quiet.clean in omega (arith, clean, less)) in
+      record {
+        office = said;
+        comes = comes;
+        moment = moment;
+        its = its;
+        reply = reply;
+        prints = prints;
+        held = λ clean. (
+          conn,
+          subst (λ o. IsHeldIn image (settings_in o) moment (file_state conn) reply) is
+              (listed_by image (settings_in held) moment opened (file_state conn) reply found seen (before clean)),
+        );
+        leaves = λ clean. keeps_queue image conn store opened (numbered clean) (databases clean) quiet.outcomes (before clean)
+            (found (seen.clean (before clean))) seen.crash;
+      }
 
   -- what is shown of a listing ends the program
-  lists_of : (status : Status) (line : List ℕ) (office : Office) (new : State) → ListsBy contents out out₂ image plan status line office new → Lists contents out out₂ plan status line
-  lists_of Success line office new by = ((office, by.comes), by.reply, by.prints)
-  lists_of Fault line office new by = inr (by.reply, by.prints)
-  lists_of Usage line office new by = absurd by.prints
-  lists_of Unused line office new by = absurd by.prints
-  lists_of Later line office new by = absurd by.prints
+  lists_of : {D : Type 0} {g : Ghosts D} (status : Status) (line : List ℕ) (store : FileStore D g) → ListsBy contents out out₂ image plan status line store
+      → Lists contents out out₂ plan status line
+  lists_of Success line store by = ((by.office, by.comes), by.reply, by.prints)
+  lists_of Fault line store by = inr (by.reply, by.prints)
+  lists_of Usage line store by = absurd by.prints
+  lists_of Unused line store by = absurd by.prints
+  lists_of Later line store by = absurd by.prints
 
   -- where no queue was there, it ends with a fault
   no_listing : (status : Status) (line : List ℕ) → status ≡ Fault → out₂ ≡ out → HasNoQueue plan.files line → Lists contents out out₂ plan status line
   no_listing status line fault same none = subst (λ s. Lists contents out out₂ plan s line) (sym fault) (inl (same, none))
 
   -- however it ends, that is its end
-  pub lists_with : {Q : Type 0} (office_of : Q → Office) (state_of : Q → State) (status : Status) (line : List ℕ) (left : Option Q)
-      → MatchOption left ((status ≡ Fault) × (out₂ ≡ out) × HasNoQueue plan.files line) (λ queue. ListsBy contents out out₂ image plan status line (office_of queue) (state_of queue))
+  pub lists_with : {D : Type 0} {g : Ghosts D} (status : Status) (line : List ℕ) (left : Option (FileStore D g))
+      → MatchOption left ((status ≡ Fault) × (out₂ ≡ out) × HasNoQueue plan.files line) (λ store. ListsBy contents out out₂ image plan status line store)
       → Lists contents out out₂ plan status line
-  lists_with office_of state_of status line (Some queue) by = lists_of status line (office_of queue) (state_of queue) by
-  lists_with office_of state_of status line None (fault, same, none) = no_listing status line fault same none
+  lists_with status line (Some store) by = lists_of status line store by
+  lists_with status line None (fault, same, none) = no_listing status line fault same none

@@ -1,27 +1,18 @@
 -- Worked rows of starts that follow one another on a database's files. Of starts and of sessions the newest comes first.
-use Rattle.std.proofs.Common.{◌≡◌, ◌⊎◌, inl, inr, refl, subst, List, [], ◌∷◌, ℕ}
+use Rattle.std.proofs.Common.{◌≡◌, inl, inr, refl, subst, List, [], ◌∷◌, ℕ}
 use Rattle.sqlite.specs.Effect.{Database, IsDatabase}
-use Rattle.sqlite.specs.Files.{HoldsDatabase, file_state}
-use Rattle.sqlite.specs.Held.{Held, AreDatabases}
-use Rattle.sqlite.specs.State.{HasCleanDisk}
-use Rattle.sqlite_disk.specs.declared.Disk.{Ghosts}
-use Rattle.sqlite_store.specs.FileStore.{recovers, state, view}
-use Rattle.sqlite_store.specs.declared.store.FileStore.{FileStore}
+use Rattle.sqlite.specs.Files.{HoldsDatabase}
 use Rattle.sqlite_wal.specs.Recovery.{Image}
-use Rattle.std.specs.Prelude.{IsTrue}
-use Rattle.fax_core.specs.Settings.{Settings}
 use Rattle.fax_core.specs.Sound.{Sound}
 use Rattle.fax_desk.specs.Replaying.{empty_start}
 use Rattle.fax_desk.specs.Turns.{AreArrivals, replies_of}
 use Rattle.fax_files.specs.Database.{AreHeld}
-use Rattle.fax_http.specs.Conversation.{Turn}
 use Rattle.fax_run.specs.Run.{Start}
 use Rattle.fax_run.specs.Sessions.{Failed, Follow, HaveOneList, IsSession, Session, Unanswered, session_of}
 use Rattle.fax_run.specs.declared.arrival.Arrival.{Arrival}
 use Rattle.fax_schema.specs.Schema.{AreOurs, no_tables}
 use Rattle.fax_tables.specs.Tables.{RowsMean}
-use Rattle.faxqd.specs.Restarts.{AreOf, HaveNone, HaveOneHistory, HaveTables, HoldStart, IsKept, IsOf, LeadOn, LeadsFrom, LeavesFiles}
-use Rattle.faxqd.specs.Serve.{ServesHeld}
+use Rattle.faxqd.specs.Restarts.{AreOf, HaveNone, HaveOneHistory, HaveTables, HoldStart, IsOf, KeepsQueue, LeadOn, LeadsFrom, Link, Looked, Ran, Served}
 
 -- ---- what files hold
 
@@ -41,56 +32,63 @@ hold_row image start = (λ have. inl have, λ have. inr have)
 
 -- ---- one start
 
--- its session has its settings, and the arrivals and replies of its messages
-of_row : (s : Settings) (turns : List Turn) (x : Session) → IsOf s turns x → (x.settings ≡ s) × AreArrivals turns x.arrivals × (x.replies ≡ replies_of turns)
-of_row s turns x of = (of.settings, of.arrivals, of.replies)
+module _ {C : Type 0} (gives : C → List ℕ → ℕ → C → Type 0) where
+  -- its session has its settings, and the arrivals and replies of its messages, at the moments that its clock gave
+  of_row : (run : Served C) (x : Session) → IsOf gives run x
+      → (x.settings ≡ run.settings) × AreArrivals gives run.clock run.turns x.arrivals × (x.replies ≡ replies_of run.turns)
+  of_row run x of = (of.settings, of.arrivals, of.replies)
 
--- each was answered: what was under way at the end is none that had no answer
-unanswered_row : (s : Settings) (turns : List Turn) (a b : Arrival) (arrivals : List Arrival) → AreArrivals turns arrivals
-    → ¬ IsOf s turns (session_of s arrivals (replies_of turns) (Unanswered a)) × IsOf s turns (session_of s arrivals (replies_of turns) (Failed b))
-unanswered_row s turns a b arrivals are = (λ of. of.under_way, record { settings = refl; arrivals = are; replies = refl; under_way = tt })
+  -- each was answered: what was under way at the end is none that had no answer
+  unanswered_row : (run : Served C) (a b : Arrival) (arrivals : List Arrival) → AreArrivals gives run.clock run.turns arrivals
+      → ¬ IsOf gives run (session_of run.settings arrivals (replies_of run.turns) (Unanswered a))
+      × IsOf gives run (session_of run.settings arrivals (replies_of run.turns) (Failed b))
+  unanswered_row run a b arrivals are = (λ of. of.under_way, record { settings = refl; arrivals = are; replies = refl; under_way = tt })
 
--- from a sound queue that the files held, such a session left what they hold afterwards
-leads_row : (s : Settings) (turns : List Turn) (from left : Image) (start : Start) → LeadsFrom s turns from left → Sound start.queue → HoldStart from start
-    → ∥ ((x : Session) × IsOf s turns x × ((end : Start) × IsSession start x end × HaveTables left end)) ∥₁
-leads_row s turns from left start leads sound holds = leads start sound holds
+  -- from a sound queue that the files held, such a session left what they hold afterwards
+  leads_row : (run : Served C) (from left : Image) (start : Start) → LeadsFrom gives run from left → Sound start.queue → HoldStart from start
+      → ∥ ((x : Session) × IsOf gives run x × ((end : Start) × IsSession start x end × HaveTables left end)) ∥₁
+  leads_row run from left start leads sound holds = leads start sound holds
 
--- of a connection: its trees are numbered, and whatever a crash leaves is a database
-kept_row : {D : Type 0} {g : Ghosts D} (conn : Held (FileStore D g)) → IsKept conn → IsTrue (view conn.store).is_numbered × AreDatabases (recovers conn.store)
-kept_row conn kept = (kept.numbered, kept.sound)
+  -- ---- one after the other
 
--- what was served leads on to whatever a crash leaves in the files, where the disk returned what was written
-leaves_row : {C D : Type 0} {g : Ghosts D} (gives : C → List ℕ → ℕ → C → Type 0) (s : Settings) (from : Image) (clock : C) (turns : List Turn) (conn : Held (FileStore D g))
-    → LeavesFiles gives s from clock turns conn → IsKept conn → HasCleanDisk (file_state conn) → ServesHeld gives s from clock turns (file_state conn)
-    → (left : Image) → (state conn.store).may_leave left → LeadsFrom s turns from left
-leaves_row gives s from clock turns conn leaves kept clean served left may = leaves kept clean served left may
+  -- without a start the files are as they were
+  no_start_row : (first last : Image) → LeadOn gives first [] last → last ≡ first
+  no_start_row first last leads = leads
 
--- ---- one after the other
+  -- one start leads on from what they held at first
+  one_start_row : (first last : Image) (run : Served C) → LeadOn gives first (Ran run ∷ []) last → LeadsFrom gives run first last
+  one_start_row first last run (from, same, leads) = subst (λ (image : Image). LeadsFrom gives run image last) same leads
 
--- without a start the files are as they were
-no_start_row : (first last : Image) → LeadOn first [] last → last ≡ first
-no_start_row first last leads = leads
+  -- and a second one from what it left
+  two_starts_row : (first middle last : Image) (run next : Served C) → LeadsFrom gives run first middle → LeadsFrom gives next middle last
+      → LeadOn gives first (Ran next ∷ Ran run ∷ []) last
+  two_starts_row first middle last run next one two = (middle, (first, refl, one), two)
 
--- one start leads on from what they held at first
-one_start_row : (first last : Image) (s : Settings) (turns : List Turn) → LeadOn first ((s, turns) ∷ []) last → LeadsFrom s turns first last
-one_start_row first last s turns (from, same, leads) = subst (λ (image : Image). LeadsFrom s turns image last) same leads
+  -- one that only looked keeps the queue that the files held, and has no session
+  looked_row : (first last : Image) → LeadOn gives first (Looked ∷ []) last → KeepsQueue first last
+  looked_row first last (from, same, keeps) = subst (λ (image : Image). KeepsQueue image last) same keeps
 
--- and a second one from what it left
-two_starts_row : (first middle last : Image) (s t : Settings) (turns others : List Turn) → LeadsFrom s turns first middle → LeadsFrom t others middle last
-    → LeadOn first ((t, others) ∷ (s, turns) ∷ []) last
-two_starts_row first middle last s t turns others one two = (middle, (first, refl, one), two)
+  looked_last_row : (first middle last : Image) (run : Served C) → LeadsFrom gives run first middle → KeepsQueue middle last
+      → LeadOn gives first (Looked ∷ Ran run ∷ []) last
+  looked_last_row first middle last run one keeps = (middle, (first, refl, one), keeps)
 
--- each start has its session, and no session is without one
-are_of_row : (s : Settings) (turns : List Turn) (x : Session) → AreOf ((s, turns) ∷ []) (x ∷ []) → IsOf s turns x
-are_of_row s turns x (of, none) = of
+  none_of_looked_row : (run : Served C) (x : Session) → AreOf gives (Looked ∷ Ran run ∷ []) (x ∷ []) → IsOf gives run x
+  none_of_looked_row run x (of, none) = of
 
-each_of_row : (s t : Settings) (turns others : List Turn) (x y : Session) → AreOf ((t, others) ∷ (s, turns) ∷ []) (y ∷ x ∷ []) → IsOf s turns x
-each_of_row s t turns others x y (later, (of, none)) = of
+  keeps_row : (from left : Image) (start : Start) → KeepsQueue from left → Sound start.queue → HoldStart from start → ∥ HaveTables left start ∥₁
+  keeps_row from left start keeps sound holds = keeps start sound holds
 
-no_session_row : (s : Settings) (turns : List Turn) (x : Session) → (¬ AreOf ((s, turns) ∷ []) []) × (¬ AreOf [] (x ∷ []))
-no_session_row s turns x = (λ are. are, λ are. are)
+  -- each start that served has its session, and no session is without one
+  are_of_row : (run : Served C) (x : Session) → AreOf gives (Ran run ∷ []) (x ∷ []) → IsOf gives run x
+  are_of_row run x (of, none) = of
 
--- one list of accepted requests says what was answered to all messages, and what the last files hold
-history_row : (start : Start) (runs : List (Settings × List Turn)) (last : Image) (all : HaveOneHistory start runs last)
-    → AreOf runs all.sessions × Follow start all.sessions all.end × HaveOneList start all.sessions all.end × HoldStart last all.end
-history_row start runs last all = (all.are, all.follow, all.one, all.holds)
+  each_of_row : (run next : Served C) (x y : Session) → AreOf gives (Ran next ∷ Ran run ∷ []) (y ∷ x ∷ []) → IsOf gives run x
+  each_of_row run next x y (later, (of, none)) = of
+
+  no_session_row : (run : Served C) (x : Session) → (¬ AreOf gives (Ran run ∷ []) []) × (¬ AreOf gives [] (x ∷ []))
+  no_session_row run x = (λ are. are, λ are. are)
+
+  -- one list of accepted requests says what was answered to all messages, and what the last files hold
+  history_row : (start : Start) (links : List (Link C)) (last : Image) (all : HaveOneHistory gives start links last)
+      → AreOf gives links all.sessions × Follow start all.sessions all.end × HaveOneList start all.sessions all.end × HoldStart last all.end
+  history_row start links last all = (all.are, all.follow, all.one, all.holds)

@@ -2,7 +2,12 @@
 use Rattle.std.specs.Prelude.{◌≡◌, ◌⊎◌, ℕ, ℤ, pos, negsuc, false, List, [], ◌∷◌, ◌++◌, codes, Option, Some, None, Result, Ok, Err, IfOk}
 use Rattle.std.specs.Fmt.{decimal}
 use Rattle.sqlite.specs.Effect.{Database, IsDatabase}
-use Rattle.sqlite.specs.State.{State, HasCleanDisk}
+use Rattle.sqlite.specs.Files.{file_state}
+use Rattle.sqlite.specs.Held.{Held}
+use Rattle.sqlite_disk.specs.declared.Disk.{Ghosts}
+use Rattle.sqlite_store.specs.FileStore.{view, state as stored}
+use Rattle.sqlite_store.specs.declared.store.FileStore.{FileStore}
+use Rattle.sqlite_trees.specs.View.{IsClean}
 use Rattle.sqlite_wal.specs.Recovery.{Image}
 use Rattle.fax_check.specs.Consistent.{Consistent}
 use Rattle.fax_check.specs.Whole.{table_name}
@@ -10,7 +15,7 @@ use Rattle.fax_check.specs.declared.tables.Flaw.{Flaw}
 use Rattle.fax_core.specs.Ledger.{Ledger}
 use Rattle.fax_core.specs.Queue.{Queue}
 use Rattle.fax_ending.specs.Ending.{no_database, write_failed}
-use Rattle.fax_files.specs.Database.{AreHeld}
+use Rattle.fax_files.specs.Database.{AreHeld, IsFound}
 use Rattle.fax_files.specs.FaultLine.{open_line}
 use Rattle.fax_files.specs.declared.database.OpenFault.{OpenFault}
 use Rattle.fax_http.specs.Device.{BrokeOff, Put}
@@ -20,6 +25,7 @@ use Rattle.fax_schema.specs.Schema.{grants_tree, jobs_tree, meta_tree, no_tables
 use Rattle.fax_store.specs.Adopt.{IsOurs}
 use Rattle.fax_tables.specs.Tables.{AreByRowid, RowsMean}
 use Rattle.fax_tables.specs.declared.fault.StoreFault.{StoreFault}
+use Rattle.faxqd.specs.Restarts.{KeepsQueue}
 use Rattle.fax_text.specs.declared.status.Status.{Status}
 use Rattle.fax_text.specs.declared.status.Status.TheVariants.{Success, Fault, Usage, Unused, Later}
 
@@ -75,11 +81,13 @@ module _ {W : Type 0} (contents : W → Option (List ℕ)) (out out₂ : Watched
   Prints (Err fault) Fault line = (out₂ ≡ out) × (line ≡ no_database)
   Prints verdict status line = ⊥
 
-  -- It told what is true of the rows that the database's files held.
-  pub record ChecksBy (image : Image) (status : Status) (line : List ℕ) (new : State) : Type 0 where
+  -- It told what is true of the rows that were found in the database's files. Whatever a crash leaves in these holds the queue that they held before.
+  pub record ChecksBy (image : Image) (status : Status) (line : List ℕ) {D : Type 0} {g : Ghosts D} (store : FileStore D g) : Type 0 where
     pub verdict : Result (Option Flaw) StoreFault
     pub prints : Prints verdict status line
-    pub held : HasCleanDisk new → IfOk verdict (IsVerdictOn image new.now)
+    pub held : IsClean (view store)
+        → (conn : Held (FileStore D g)) × IsFound image (file_state conn) × IfOk verdict (IsVerdictOn image (file_state conn).now)
+    pub leaves : IsClean (view store) → (left : Image) → (stored store).may_leave left → KeepsQueue image left
 
   -- So where it succeeds, it printed that they are sound. Where it doesn't, it has no database, or told something else, or the output failed.
   abbrev pub Checks : Status → List ℕ → Type 0

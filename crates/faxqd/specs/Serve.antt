@@ -1,8 +1,12 @@
 -- How the command `serve` ends, and what it answers.
-use Rattle.std.specs.Prelude.{◌≡◌, ◌⊎◌, ℕ, Bool, true, false, List, [], Option, Ok}
+use Rattle.std.specs.Prelude.{◌≡◌, ◌⊎◌, ℕ, Bool, false, List, [], Option, Ok}
 use Rattle.sqlite.specs.Effect.{Database, IsDatabase}
-use Rattle.sqlite.specs.State.{State, HasCleanDisk}
+use Rattle.sqlite.specs.State.{State}
+use Rattle.sqlite_disk.specs.declared.Disk.{Ghosts}
+use Rattle.sqlite_store.specs.FileStore.{view, state as stored}
+use Rattle.sqlite_store.specs.declared.store.FileStore.{FileStore}
 use Rattle.sqlite_trees.specs.Tree.{Trees}
+use Rattle.sqlite_trees.specs.View.{IsClean}
 use Rattle.sqlite_wal.specs.Recovery.{Image}
 use Rattle.fax_core.specs.Settings.{Settings}
 use Rattle.fax_core.specs.Sound.{Sound}
@@ -24,11 +28,11 @@ use Rattle.fax_net.specs.Listening.{Listens, SaidNothing, listening}
 use Rattle.fax_files.specs.Database.{AreHeld}
 use Rattle.fax_files.specs.Office.{ComesOf}
 use Rattle.faxqd.specs.NoQueue.{HasNoQueue}
+use Rattle.faxqd.specs.Restarts.{LeadsFrom}
 use Rattle.fax_ending.specs.Ending.{no_database}
 use Rattle.fax_text.specs.declared.status.Status.{Status}
 use Rattle.fax_text.specs.declared.status.Status.TheVariants.{Success, Fault, Usage, Unused, Later}
 use Rattle.fax_net.specs.History.{Step}
-use Rattle.fax_net.specs.declared.sockets.Sockets.{Sockets}
 use Rattle.fax_text.specs.declared.server.ServePlan.{ServePlan}
 
 -- ---- messages
@@ -41,7 +45,7 @@ module _ {C : Type 0} (gives : C → List ℕ → ℕ → C → Type 0) (setting
   -- These messages were answered one after the other from this start on, and the tables mean the sound queue that they lead to. They are a session, and what a crash leaves, such a session left.
   pub record HasServed (start : Start) (clock : C) (turns : List Turn) (new : State) : Type 0 where
     pub arrivals : List Arrival
-    pub are : AreArrivals turns arrivals
+    pub are : AreArrivals gives clock turns arrivals
     pub end : Start
     pub answered : AreTurns gives settings start clock turns end
     pub session : IsSession start (session_of settings arrivals (replies_of turns) Nothing) end
@@ -69,11 +73,14 @@ module _ {W : Type 0} (contents : W → Option (List ℕ)) (out out₂ : Watched
   Ends plan Unused line = ⊥
   Ends plan Later line = ⊥
 
-  module _ (did : Sockets → Step → Sockets → Type 0) where
+  module _ {P : Type 0} (opened : P → Type 0) (did : P → Step → P → Type 0) where
     module _ {C : Type 0} (gives : C → List ℕ → ℕ → C → Type 0) (image : Image) (plan : ServePlan) (clock : C) (status : Status) (line : List ℕ) where
-      -- It served by the office that the files say, from what the database's files held on, each message at the moment that the clock gave.
-      pub record ServesBy (office : Office) (new : State) (shut : Bool) : Type 0 where
+      -- It served by the office that the files say. Whatever a crash leaves in the database's files, a session of these messages left, from the sound queue that they held before: each message came at the moment that the clock gave.
+      pub record ServesBy {D : Type 0} {g : Ghosts D} (store : FileStore D g) : Type 0 where
+        pub office : Office
         pub comes : ComesOf plan.files (Ok office)
         pub turns : List Turn
-        pub told : Listens contents out out₂ did plan.connections turns shut status line
-        pub served : HasCleanDisk new → ServesHeld gives (settings_in office) image clock turns new
+        pub shut : Bool
+        pub told : Listens contents out out₂ opened did plan.connections turns shut status line
+        pub leaves : IsClean (view store) → (left : Image) → (stored store).may_leave left
+            → LeadsFrom gives (record { settings = settings_in office; clock = clock; turns = turns }) image left

@@ -1,6 +1,5 @@
 //! `faxqd check`: tells whether the rows of a file are those of a consistent queue.
 ghost use Rattle.std.specs.Prelude.{◌≡◌, false, MatchOption};
-ghost use Rattle.sqlite.specs.Files.{file_state};
 ghost use Rattle.sqlite_wal.specs.Files.{image_at};
 ghost use Rattle.fax_ending.specs.Ending.{spoken};
 ghost use Rattle.fax_ending.specs.FaultLine.{spelled};
@@ -12,22 +11,21 @@ use fax_files::{open_ending, open_found_store};
 use fax_http::Watched;
 use fax_tables::StoreFault;
 use fax_text::{CheckPlan, Status};
-use sqlite::{Connection, FileFrom, FileStore, Start};
+use sqlite::{FileFrom, FileStore, Start};
 use std::io::Write;
 
-/// Opens the database, reads its rows, and prints that they are sound, or says which isn't. The database is given back,
-/// if there is one. `start` stands for what its files hold.
+/// Opens the database, reads its rows, and prints that they are sound, or says which isn't. Its files are given back as they
+/// are then, if it was opened. `start` stands for what they held.
 pub fn check<'a, S: Start, W: Write + Drop>(
     rt: &HostRuntime,
     plan: CheckPlan<'a>,
     start: S,
     out: &mut Watched<W>,
-) -> (Ending<'a>, Option<Connection<FileStore<FileFrom<S>>>>)
+) -> (Ending<'a>, Option<FileStore<FileFrom<S>>>)
     requires { out.old.failed ≡ false }
     ensures checks { MatchOption result.1
         ((result.0.status ≡ Status.Fault) × (out.new ≡ out.old) × HasNoDatabase (spoken result.0))
-        (λ conn. ChecksBy W.contents out.old out.new (image_at S.Start) result.0.status (spoken result.0)
-        (file_state conn)) }
+        (ChecksBy W.contents out.old out.new (image_at S.Start) result.0.status (spoken result.0)) }
 {
     let mut conn = match open_found_store(rt, plan.database, start) {
         Ok(store) => store.close(),
@@ -35,7 +33,7 @@ pub fn check<'a, S: Start, W: Write + Drop>(
     };
     let verdict = fax_check::check(rt.alloc(), &mut conn);
     let ending = tell(verdict, out);
-    (ending, Some(conn))
+    (ending, Some(conn.into_store()))
 }
 
 /// Prints that no row has a flaw, or says which has, or that the database gave no answer.

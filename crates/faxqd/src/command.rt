@@ -17,15 +17,24 @@ use crate::worker::worker;
 use fax_ending::Ending;
 use fax_http::{MachineClock, Watched};
 use fax_net::sendfax::sendfax;
+use fax_net::{Network, Peers};
 use fax_text::{Plan, Status, WordsFault, read_words};
 use sqlite::Start;
 use std::io::{ErrorKind, Read, Write};
 
-/// Runs the command that the words ask for. Help goes to `out`, what is wrong to `err`.
-/// `start` stands for what a database's files hold.
-pub fn run<S: Start, R: Read + Drop, W: Write + Drop, E: Write + Drop>(
+/// Runs the command that the words ask for. Help goes to `out`, what is wrong to `err`. Who connects comes from
+/// `network`, and `start` stands for what a database's files hold.
+pub fn run<
+    P: Peers + Drop,
+    N: Network<P> + Drop,
+    S: Start,
+    R: Read + Drop,
+    W: Write + Drop,
+    E: Write + Drop,
+>(
     rt: &HostRuntime,
     words: &[String],
+    network: N,
     start: S,
     reader: &mut Watched<R>,
     out: &mut Watched<W>,
@@ -38,15 +47,16 @@ pub fn run<S: Start, R: Read + Drop, W: Write + Drop, E: Write + Drop>(
         (map string_bytes words.now) result }
 {
     match read_words(rt.alloc(), words) {
-        Ok(plan) => say_at_end(carry_out(rt, plan, start, reader, out), err),
+        Ok(plan) => say_at_end(carry_out(rt, plan, network, start, reader, out), err),
         Err(fault) => refuse(out, err, &fault),
     }
 }
 
 /// Does what the words ask for.
-fn carry_out<'a, S: Start, R: Read + Drop, W: Write + Drop>(
+fn carry_out<'a, P: Peers + Drop, N: Network<P> + Drop, S: Start, R: Read + Drop, W: Write + Drop>(
     rt: &HostRuntime,
     plan: Plan<'a>,
+    network: N,
     start: S,
     reader: &mut Watched<R>,
     out: &mut Watched<W>,
@@ -58,7 +68,7 @@ fn carry_out<'a, S: Start, R: Read + Drop, W: Write + Drop>(
 {
     match plan {
         Plan::Replay(files) => replay(rt, files, reader, out),
-        Plan::Serve(plan) => serve(rt, plan, MachineClock::new(rt), start, out).0,
+        Plan::Serve(plan) => serve(rt, plan, network, MachineClock::new(rt), start, out).0,
         Plan::List(plan) => list(rt, plan, start, out).0,
         Plan::Check(plan) => check(rt, plan, start, out).0,
         Plan::Sendfax(plan) => sendfax(rt, &plan, out),

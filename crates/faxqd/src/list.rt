@@ -1,6 +1,5 @@
 //! `faxqd list`: prints the listing of the jobs in a file.
 ghost use Rattle.std.specs.Prelude.{◌≡◌, false, MatchOption};
-ghost use Rattle.sqlite.specs.Files.{file_state};
 ghost use Rattle.sqlite.specs.Held.{state};
 ghost use Rattle.sqlite_wal.specs.Files.{image_at};
 ghost use Rattle.fax_desk.specs.Replaying.{settings_in};
@@ -20,18 +19,18 @@ use std::alloc::Global;
 use std::io::Write;
 
 /// Reads the files, opens the database, and prints the listing of its jobs at the moment that the plan says, or else at
-/// the machine's. The queue is given back, if there is one. `start` stands for what the database's files hold.
+/// the machine's. The database's files are given back as they are then, if a queue was opened. `start` stands for what they
+/// held.
 pub fn list<'a, S: Start, W: Write + Drop>(
     rt: &HostRuntime,
     plan: ListPlan<'a>,
     start: S,
     out: &mut Watched<W>,
-) -> (Ending<'a>, Option<Queue<FileStore<FileFrom<S>>>>)
+) -> (Ending<'a>, Option<FileStore<FileFrom<S>>>)
     requires { out.old.failed ≡ false }
     ensures lists { MatchOption result.1
         ((result.0.status ≡ Status.Fault) × (out.new ≡ out.old) × HasNoQueue plan.entry.files (spoken result.0))
-        (λ queue. ListsBy W.contents out.old out.new (image_at S.Start) plan.entry result.0.status (spoken result.0)
-        queue.office (file_state queue.store.conn)) }
+        (ListsBy W.contents out.old out.new (image_at S.Start) plan.entry result.0.status (spoken result.0)) }
 {
     let office = match read_office(rt, plan.files) {
         Ok(office) => office,
@@ -43,7 +42,7 @@ pub fn list<'a, S: Start, W: Write + Drop>(
         Err(fault) => return (open_ending(fault), None),
     };
     let (ending, queue) = list_queue(rt.alloc(), queue, moment, out);
-    (ending, Some(queue))
+    (ending, Some(queue.close().into_store()))
 }
 
 /// Prints the listing of that queue, which is given back.

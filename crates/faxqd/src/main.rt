@@ -16,6 +16,7 @@ mod settings;
 mod worker;
 
 use fax_http::Watched;
+use fax_net::{MachineNetwork, Sockets};
 use sqlite::Unknown;
 use std::process::ExitCode;
 use std::{env, io};
@@ -28,9 +29,17 @@ fn called_with(rt: &HostRuntime) -> io::Result<Vec<String>> {
 // The types of the streams are named, so that no two of them can change places.
 fn main(rt: HostRuntime) -> ExitCode {
     let status = match called_with(&rt) {
-        Ok(words) => command::run::<Unknown, io::Stdin, io::Stdout, io::Stderr>(
+        Ok(words) => command::run::<
+            Sockets<'_>,
+            MachineNetwork<'_>,
+            Unknown,
+            io::Stdin,
+            io::Stdout,
+            io::Stderr,
+        >(
             &rt,
             words.as_slice(),
+            MachineNetwork::new(&rt),
             Unknown,
             &mut Watched::new(rt.stdin()),
             &mut Watched::new(rt.stdout()),

@@ -11,6 +11,7 @@ pub returns : goal.returns
 returns g c =
     let found = subst (λ conn. HasCleanDisk (file_state conn) → IsFound (image_at g.S.Start) (file_state conn)) (sym c.close-conn.ensures) c.in-Ok.ensures in
     record {
-      checks = checks_by _ _ _ _ c.tell-ending.result.status (spoken c.tell-ending.result) (file_state c.close-conn.result) (file_state c.check-verdict.new.conn) c.check-verdict.result
-          found c.check-verdict.ensures c.tell-ending.ensures;
+      checks = checks_by _ _ _ _ c.tell-ending.result.status (spoken c.tell-ending.result) c.close-conn.result c.check-verdict.new.conn c.check-verdict.result
+          c.into_store.result found c.check-verdict.ensures c.tell-ending.ensures
+          c.into_store.ensures.numbered c.into_store.ensures.sound c.into_store.ensures.quiet;
     }

@@ -9,7 +9,7 @@ pub returns-then-status-ne200-clause-shown : goal.returns-then-status-ne200-clau
 returns-then-status-ne200-clause-shown g c = (
   c.view-reply.result,
   is_seen (settings_in c.args.queue.office) c.args.moment (state g.S.Store c.args.queue.store.conn) (state g.S.Store c.view-reply.new.self.store.conn) c.view-reply.result
-      c.view-reply.ensures.stays c.view-reply.ensures.clean c.view-reply.ensures.viewed,
+      c.view-reply.ensures.stays c.view-reply.ensures.clean c.view-reply.ensures.viewed c.view-reply.ensures.crash,
   rw c.failed.ensures.status (inl (λ e. c.if-status-ne200.true (c.status.ensures ∙ e), refl, c.failed.ensures.says)),
 )
 
@@ -17,7 +17,7 @@ pub returns-in-Ok-clause-shown : goal.returns-in-Ok-clause-shown
 returns-in-Ok-clause-shown g c = (
   c.view-reply.result,
   is_seen (settings_in c.args.queue.office) c.args.moment (state g.S.Store c.args.queue.store.conn) (state g.S.Store c.view-reply.new.self.store.conn) c.view-reply.result
-      c.view-reply.ensures.stays c.view-reply.ensures.clean c.view-reply.ensures.viewed,
+      c.view-reply.ensures.stays c.view-reply.ensures.clean c.view-reply.ensures.viewed c.view-reply.ensures.crash,
   rw c.well.ensures.status (
     sym c.status.ensures ∙ c.if-status-ne200.false,
     subst (λ (bytes : List ℕ). Put g.W.Write.contents c.args.out.now c.put.new.self bytes false) c.body.ensures c.in-Ok.ensures.ok,
@@ -29,7 +29,7 @@ pub returns-clause-shown : goal.returns-clause-shown
 returns-clause-shown g c = (
   c.view-reply.result,
   is_seen (settings_in c.args.queue.office) c.args.moment (state g.S.Store c.args.queue.store.conn) (state g.S.Store c.view-reply.new.self.store.conn) c.view-reply.result
-      c.view-reply.ensures.stays c.view-reply.ensures.clean c.view-reply.ensures.viewed,
+      c.view-reply.ensures.stays c.view-reply.ensures.clean c.view-reply.ensures.viewed c.view-reply.ensures.crash,
   rw c.failed-in-Err.ensures.status (inr (
     sym c.status.ensures ∙ c.if-status-ne200.false,
     subst (λ (bytes : List ℕ). BrokeOff g.W.Write.contents c.args.out.now c.put.new.self bytes) c.body.ensures c.in-Err.ensures.err,
