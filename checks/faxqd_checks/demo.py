@@ -1,5 +1,6 @@
 """examples/demo shows what it says, and finds a page that goes twice and a fax that is missing."""
 import collections
+import concurrent.futures
 import os
 import re
 import subprocess
@@ -119,9 +120,11 @@ def shows(folder):
     """The table has each request with an answer, always the same one, however often it comes, but for a worker's
     last, which may have none yet; each thing that the network does; and each page that a modem sends. What it sums up
     is in the table. It ends with 0, within a minute."""
-    for seed in "1", "2":
+    with concurrent.futures.ThreadPoolExecutor() as pool:
+        runs = {seed: pool.submit(shown, said.program, "--seed", seed) for seed in ("1", "2")}
+    for seed, run in runs.items():
         with attempt(f"seed {seed}"):
-            is_as_it_says(*shown(said.program, "--seed", seed))
+            is_as_it_says(*run.result())
 
 
 @check

@@ -116,11 +116,12 @@ class Report:
         print(f"{self.passed} passed, {self.failed} failed")
 
 
-def run_all(wanted, report):
-    """Runs these checks, those with the same word side by side."""
+def run_all(wanted, at_once, report):
+    """Runs these checks, those with the same word side by side, or all of them."""
     places = itertools.count()
-    for beside in dict.fromkeys(check.beside or check.name for check in wanted):
-        part = [check.name for check in wanted if (check.beside or check.name) == beside]
+    words = {check.name: "all" if at_once else check.beside or check.name for check in wanted}
+    for beside in dict.fromkeys(words.values()):
+        part = [name for name, word in words.items() if word == beside]
         run_part(part, len(os.sched_getaffinity(0)) if beside == "computing" else len(part), places, report)
 
 
@@ -168,6 +169,7 @@ def words(arguments, modules):
                         "but those by hand")
     parser.add_argument("--list", action="store_true", help="say each check with its sentence")
     parser.add_argument("--all", action="store_true", help="try all of what a check else tries a part of")
+    parser.add_argument("--at-once", action="store_true", help="run all side by side, for those that don't measure time")
     parser.add_argument("--program", metavar="FILE", type=pathlib.Path, default=said.program, help="another program")
     given = parser.parse_args(arguments)
     for module in modules:
@@ -195,7 +197,7 @@ def main(arguments, modules):
             shared.compile_libraries(folder)
         shared.slack()
         try:
-            run_all(wanted, report)
+            run_all(wanted, given.at_once, report)
         finally:
             report.end(time.monotonic() - start)
     return 1 if report.failed else 0
