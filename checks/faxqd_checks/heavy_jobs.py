@@ -163,6 +163,15 @@ def fill_busy(folder):
             server.ask("a submission", post("/jobs", 3 + number, f"number:555{number}\ntotpages:1\n"), 201)
 
 
+def choose(server, number, request, taken):
+    """Has the modem ask for work, which is the job to 555 and that number; gives its grant, and notes the processor time."""
+    before = server.processor()
+    body, _ = server.ask("next", post("/modems/ttyS0/next", request, client="ttyS0"), 200)
+    taken.append(server.processor() - before)
+    expect(f'"number":"555{number}"'.encode() in body, f"next is answered {body!r}")
+    return re.search(rb'"grant":(\d+)', body)[1].decode()
+
+
 @check
 def busy(_):
     """90,000 jobs to a number that another modem has a call to wait in front of those that may go, and the best of five choices
@@ -172,11 +181,7 @@ def busy(_):
         taken = []
         with Queue(folder) as server:
             for number in range(ROUNDS):
-                before = server.processor()
-                body, _ = server.ask("next", post("/modems/ttyS0/next", 1 + 3 * number, client="ttyS0"), 200)
-                taken.append(server.processor() - before)
-                expect(f'"number":"555{number}"'.encode() in body, f"next is answered {body!r}")
-                grant = re.search(rb'"grant":(\d+)', body)[1].decode()
+                grant = choose(server, number, 1 + 3 * number, taken)
                 over = '{"dialed":true,"outcome":"fail","pages":0,"reason":"busy"}'
                 server.ask("a call", post(f"/grants/{grant}/call", 2 + 3 * number, '{"result":"busy"}', "ttyS0"), 200)
                 server.ask("an outcome", post(f"/grants/{grant}/outcome", 3 + 3 * number, over, "ttyS0"), 200)
@@ -205,15 +210,11 @@ def outside(_):
         with Queue(folder, None, "--controls", folder / "controls") as server:
             for number in range(ROUNDS):
                 server.ask("a submission", post("/jobs", 2 + number, f"number:555{number}\ntotpages:1\n"), 201)
-                before = server.processor()
-                body, _ = server.ask("next", post("/modems/ttyS0/next", 1 + 2 * number, client="ttyS0"), 200)
-                taken.append(server.processor() - before)
-                expect(f'"number":"555{number}"'.encode() in body, f"next is answered {body!r}")
-                grant = re.search(rb'"grant":(\d+)', body)[1].decode()
+                grant = choose(server, number, 1 + 2 * number, taken)
                 over = '{"dialed":false,"outcome":"fail","pages":0,"reason":"none"}'
                 server.ask("an outcome", post(f"/grants/{grant}/outcome", 2 + 2 * number, over, "ttyS0"), 200)
     say(f"{min(taken):.3f} s")
-    expect(min(taken) <= SEARCHED, f"a choice behind {STORED:,} jobs outside their hours takes {min(taken):.3f} s")
+    expect(min(taken) <= SEARCHED, f"a choice after {STORED:,} jobs outside their hours takes {min(taken):.3f} s")
 
 
 # How the jobs that are passed over stand: all alike, or in each order of the choice.
@@ -342,8 +343,8 @@ def fill_over(folder, front, recent, old):
 
 # How many jobs of a file that is purged wait in front, are over too recently, and may leave.
 PURGEABLE = {"that are all old": (0, 0, STORED), "in front of those that wait": (0, 0, PURGES * LEFT),
-             "behind 97,000 that wait": (STORED - PURGES * LEFT, 0, PURGES * LEFT), "behind 10,000 that wait": (10_000, 0, 90_000),
-             "behind 50,000 that are too recent": (0, 50_000, 50_000)}
+             "after 97,000 that wait": (STORED - PURGES * LEFT, 0, PURGES * LEFT), "after 10,000 that wait": (10_000, 0, 90_000),
+             "after 50,000 that are too recent": (0, 50_000, 50_000)}
 
 
 @check

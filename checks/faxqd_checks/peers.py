@@ -122,11 +122,11 @@ def crowd(folder):
             for worker in workers:
                 worker.join(PATIENCE)
         expect(told == {"ttyS0": 7, "ttyS1": 7}, f"two workers' faxes of twenty pages come to {told}")
-    say(f"behind 53 slow peers a request takes {1e6 * alone[150]:.0f} us, {1e6 * alone[297]:.0f} us at the 99th percentile")
+    say(f"beside 53 slow peers a request takes {1e6 * alone[150]:.0f} us, {1e6 * alone[297]:.0f} us at the 99th percentile")
     say(f"with 200 more that wait {1e6 * took[500]:.0f} us, {1e6 * took[990]:.0f} us at the 99th percentile and "
         f"{took[-1]:.2f} s at most; 1,000 take {whole:.1f} s")
-    expect(alone[297] < alone_limit, f"behind 53 slow peers a request takes {alone[297]:.3f} s at the 99th percentile")
-    expect(took[990] < limit, f"behind 253 slow peers a request takes {took[990]:.3f} s at the 99th percentile")
+    expect(alone[297] < alone_limit, f"beside 53 slow peers a request takes {alone[297]:.3f} s at the 99th percentile")
+    expect(took[990] < limit, f"beside 253 slow peers a request takes {took[990]:.3f} s at the 99th percentile")
 
 
 @check
@@ -185,7 +185,7 @@ def kept_open(folder):
                 status, listing = fetch(client)
                 expect(status == 200 and listing.startswith(b"   JID Pri S "), f"a fetch is answered {status}")
             took = times(server.port, 50)
-            expect(took[-1] < 0.5 * busyness(), f"behind idle clients a request takes {took[-1]:.3f} s")
+            expect(took[-1] < 0.5 * busyness(), f"after idle clients a request takes {took[-1]:.3f} s")
             time.sleep(idle)
         for client in clients:
             client.close()

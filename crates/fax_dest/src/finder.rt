@@ -11,8 +11,8 @@ use fax_job::Dial;
 use regex::Matcher;
 use std::alloc::{AllocError, Global};
 
-/// Looks up the rules of numbers. What a search for a pattern needs is made when the first number comes to its rule, and
-/// kept for all further numbers, which then take a small part of the time.
+/// Looks up the rules of numbers. What a search for a pattern needs is made when a number first reaches its rule, and kept
+/// for all further numbers, which then take a small part of the time.
 #[derive(Drop)]
 pub struct Finder<'a> {
     rules: &'a [Entry],

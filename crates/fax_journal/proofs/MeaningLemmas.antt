@@ -73,7 +73,7 @@ one_held (Some g) (Some h) is =
     let pages_is : g.pages ≡ h.pages = cc in
     ap Some (same_held h g.grant g.job g.dial g.first_page g.last_page g.call g.pages grant_is job_is dial_is first_is last_is (one_call g.call h.call call_is) pages_is)
 
--- two lists of one length, with others behind them
+-- two lists of one length, with others after them
 split : (a b c d : Row) → length a ≡ length c → a ++ b ≡ c ++ d → (a ≡ c) × (b ≡ d)
 split [] b [] d long is = (refl, is)
 split [] b (z ∷ zs) d long is = absurd (omega (arith, long))

@@ -86,7 +86,7 @@ pub reads_same : {A : Type 0} (old new : State) (result : Result A StoreFault) �
 reads_same old new (Ok a) same = same
 reads_same old new (Err e) same = inl same
 
--- what is undone behind a call that changes nothing is undone of what was before
+-- what is undone after a call that changes nothing is undone of what was before
 pub left_then : (a b c : State) → IsUnchanged a b → LeavesCommit b c → LeavesCommit a c
 left_then a b c same (inl next) = inl (unchanged_then a b c same next)
 left_then a b c same (inr undone) = inr (record {
@@ -97,7 +97,7 @@ left_then a b c same (inr undone) = inr (record {
   counts = record { changes = undone.counts.changes ∙ same.1.changes; last_rowid = undone.counts.last_rowid ∙ same.1.last_rowid };
 })
 
--- so one reading leaves the same behind another
+-- so one reading leaves the same after another
 pub reads_then : (a b c : State) {A : Type 0} (result : Result A StoreFault) → IsUnchanged a b → Reads b c result → Reads a c result
 reads_then a b c (Ok x) same next = unchanged_then a b c same next
 reads_then a b c (Err e) same next = left_then a b c same next

@@ -126,7 +126,7 @@ pub(crate) fn post_plan_in<'a>(
     })
 }
 
-/// The words behind the options, if there are any. The only error is out of memory.
+/// The words after the options, if there are any. The only error is out of memory.
 fn words_in<'a>(alloc: Global, options: &ArgMatches<'a>) -> Result<Vec<&'a str>, AllocError>
     ensures { IfOk result (λ words. unwrap_or (all_of (codes "word") (rows_of (found_of options.now))) []
         ≡ map (λ word. word.now) words.items) }
@@ -177,7 +177,7 @@ pub(crate) fn post_command<'a>(alloc: Global) -> Result<Command<'a>, AllocError>
     with_journal(alloc, post)
 }
 
-/// The words behind the options.
+/// The words after the options.
 fn words_argument<'a>(alloc: Global, help: &'a str) -> Arg<'a>
     ensures rule { rule_of result ≡ words_argument }
     ensures local { result.global ≡ false }
