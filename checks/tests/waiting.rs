@@ -1,6 +1,7 @@
 //! Rattle, not Rust: checks/try-tests compiles and runs it without a proof, and rt doesn't read it.
 //! The jobs that wait come one at a time as they come all at once, each with the calls to its number.
-use fax_job::Moment;
+use fax_core::{better, due};
+use fax_job::{Job, Moment};
 use fax_store::Store;
 use sqlite::{Alter, Connection, params};
 use std::alloc::Global;
@@ -162,15 +163,21 @@ fn with_jobs<S: Alter + Drop>(
     adopted(alloc, conn)
 }
 
-/// The jobs that wait, each with the calls to its number.
+/// Of all jobs those that are due, the better ones first, each with the calls to its number.
 fn all_at_once<S: Alter>(
     alloc: Global,
     store: &mut Store<S>,
     t: Moment,
 ) -> Result<Vec<(u32, u64)>, Fail> {
+    let mut waiting: Vec<Job> = Vec::new(alloc);
+    for job in store.briefs()? {
+        if due(&job, t) {
+            let place = waiting.iter().take_while(|other| better(other, &job)).count();
+            waiting.insert(place, job)?;
+        }
+    }
     let mut all = Vec::new(alloc);
-    let jobs = store.waiting(t)?;
-    for job in &jobs {
+    for job in &waiting {
         let calls = store.active_to(&job.fields().dial)?;
         all.push((job.fields().job, calls))?;
     }
@@ -186,10 +193,11 @@ fn one_at_a_time<S: Alter>(
     let mut all = Vec::new(alloc);
     let mut candidates = store.candidates(t);
     for _ in 0..100 {
-        let Some((job, calls)) = candidates.next()? else {
+        let Some(prospect) = candidates.prospect()? else {
             return Ok(all);
         };
-        all.push((job.fields().job, calls))?;
+        let calls = candidates.active_to(&prospect.dial)?;
+        all.push((prospect.job, calls))?;
     }
     Err("no last candidate".into())
 }

@@ -11,7 +11,7 @@ use Rattle.std.proofs.lemmas.List.Sorted.{IsPermutation-sym, length_permutation}
 use Rattle.std.proofs.lemmas.Slice.Eq.{bytes_eq-Decides}
 use Rattle.sqlite.specs.Order.{Row}
 use Rattle.sqlite_rules.specs.Lists.{Has}
-use Rattle.sqlite_rules.proofs.ListLemmas.{all_has, has_either, has_filtered, has_found, has_kept, has_last, has_right}
+use Rattle.sqlite_rules.proofs.ListLemmas.{all_has, has_either, has_filtered, has_found, has_kept, has_last, has_left, has_right}
 use Rattle.sqlite_rules.proofs.ProbeLemmas.{mapped_has}
 use Rattle.fax_value.specs.Status.{kill_time_expired}
 use Rattle.fax_job.specs.declared.job.Phase.{Phase}
@@ -349,6 +349,10 @@ with_busy s m t numbers dial all one =
       ]
     ])
     (λ many. all)
+
+-- without the last of them all are
+pub first_busy : (s : Settings) (m : Queue) (t : ℕ) (numbers front : List (List ℕ)) (dial : List ℕ) → numbers ≡ front ++ dial ∷ [] → AreBusy s m t numbers → AreBusy s m t front
+first_busy s m t numbers front dial is all d has = all d (subst (λ (xs : List (List ℕ)). Has xs d) (sym is) (has_left front (dial ∷ []) d has))
 
 -- the last of busy ones is busy
 pub last_busy : (s : Settings) (m : Queue) (t : ℕ) (numbers front : List (List ℕ)) (dial : List ℕ) → numbers ≡ front ++ dial ∷ [] → AreBusy s m t numbers

@@ -19,6 +19,7 @@ use Rattle.fax_store.specs.Job.{AreWaiting}
 use Rattle.fax_core.specs.declared.grants.Grant.{Grant}
 use Rattle.fax_store.specs.declared.candidates.Asked.{Asked}
 use Rattle.fax_dest.specs.Finder.{IsFinderOf}
+use Rattle.fax_hours.specs.Zone.{week_minute_at}
 use Rattle.fax_decide.specs.Settings.{settings_of}
 use Rattle.fax_decide.specs.State.{may_call}
 use Rattle.fax_decide.specs.declared.choice.Learned.{Learned}
@@ -34,10 +35,11 @@ IsBusy s m t busy = IfSome busy (λ dial. may_call s dial (calls_to dial m) t �
 abbrev pub AreBusy : Settings → Queue → ℕ → List (List ℕ) → Type 0
 AreBusy s m t numbers = (dial : List ℕ) → Has numbers dial → may_call s dial (calls_to dial m) t ≡ false
 
--- what a look for work has learned of numbers: it looks them up in the office's rules, and to the busy ones no call may begin
+-- what a look for work at t has learned of numbers: it looks them up in the office's rules, and to the busy ones no call may begin
 abbrev pub HasLearned : Office → Queue → ℕ → Learned → Type 0
 HasLearned office m t learned =
     IsFinderOf office.controls learned.finder × AreBusy (settings_of office.setup office.controls) m t learned.busy.items
+    × (learned.minute ≡ week_minute_at office.setup.zone t)
 
 -- a number is remembered too, unless 16 are
 abbrev pub with_number : List (List ℕ) → List ℕ → List (List ℕ)

@@ -26,8 +26,9 @@ ghost use Rattle.fax_job.specs.declared.refusal.Refusal.TheVariants.{ModemBusy};
 ghost use Rattle.fax_tables.specs.Grant.{as_hold};
 ghost use Rattle.fax_store.specs.Candidates.{StandsAt};
 ghost use Rattle.fax_dest.specs.Setup.{admits};
+ghost use Rattle.fax_hours.specs.Zone.{week_minute_at};
 ghost use Rattle.fax_dest.specs.Finder.{IsFinderOf};
-ghost use Rattle.fax_decide.specs.Choice.{HasLearned, IsBusy, IsBusyModem, IsFirst, IsFirstAsked, IsGrantOf, is_held_by, with_number};
+ghost use Rattle.fax_decide.specs.Choice.{HasLearned, IsBusy, IsBusyModem, IsFirst, IsFirstAsked, IsGrantOf, with_number};
 ghost use Rattle.fax_decide.specs.Decision.{Decides};
 ghost use Rattle.fax_decide.specs.Fault.{OrNoAnswer};
 ghost use Rattle.fax_decide.specs.Looking.{Consults};
@@ -39,7 +40,7 @@ use crate::decision::{Decision, answered, applied, take};
 use crate::effect::Effect;
 use crate::fault::Fault;
 use crate::held::held_grant;
-use crate::office::Office;
+use crate::office::{Office, WeekMinute};
 use fax_ask::{Answer, Detail, Handed, Reply};
 use fax_core::{Change, Grant, fits, grant};
 use fax_dest::Finder;
@@ -56,6 +57,8 @@ const MOST_KNOWN: usize = 16;
 /// What one look for work learns of numbers.
 #[derive(Drop)]
 struct Learned<'a> {
+    /// When it looks.
+    minute: WeekMinute,
     /// Has searched for the rules of some.
     finder: Finder<'a>,
     /// To these no call may begin.
@@ -158,14 +161,14 @@ fn first<S: Alter>(
         → OrNoAnswer result (IsFirst (settings_of office.now.setup office.now.controls) m t modem.now)) }
 {
     let mut learned = Learned {
+        minute: office.minute_at(t)?,
         finder: office.controls.finder(alloc),
         busy: Vec::new(alloc),
     };
     let found = first_or_busy(store, office, alloc, &mut learned, modem, t)?;
-    let Learned { finder, mut busy } = learned;
-    match busy.pop() {
+    match learned.busy.pop() {
         None => Ok(found),
-        Some(dial) => first_but(store, office, alloc, finder, dial, modem, t),
+        Some(dial) => first_but(store, office, alloc, &mut learned, dial, modem, t),
     }
 }
 
@@ -192,29 +195,17 @@ fn first_but<S: Alter>(
     store: &mut Store<S>,
     office: &Office,
     alloc: Global,
-    finder: Finder<'_>,
+    learned: &mut Learned<'_>,
     busy: Dial,
     modem: &Name,
     t: Moment,
 ) -> Result<Option<u32>, Fault>
-    ensures { Consults S.Store store.old store.new result (λ m. Sound m → IsFinderOf office.now.controls finder.entry
+    ensures { Consults S.Store store.old store.new result (λ m. Sound m → HasLearned office.now m t learned.old
         → IsBusy (settings_of office.now.setup office.now.controls) m t (Some busy)
         → OrNoAnswer result (IsFirst (settings_of office.now.setup office.now.controls) m t modem.now)) }
 {
-    let mut learned = Learned {
-        finder,
-        busy: Vec::new(alloc),
-    };
     let mut candidates = store.candidates_but(t, busy);
-    first_of(
-        &mut candidates,
-        office,
-        alloc,
-        &mut learned,
-        false,
-        modem,
-        t,
-    )
+    first_of(&mut candidates, office, alloc, learned, false, modem, t)
 }
 
 /// The number of the first of the candidates that may go to the modem at `t`, the moment that they were asked for. If
@@ -283,32 +274,39 @@ fn goes<S: Alter>(
     if is_known(&learned.busy, &dial) {
         return Ok(false);
     }
-    if !may_call(candidates, office, alloc, &mut learned.finder, &dial, t)? {
+    if !may_call(
+        candidates,
+        office,
+        alloc,
+        &mut learned.finder,
+        &dial,
+        &learned.minute,
+    )? {
         remember(&mut learned.busy, dial)?;
         return Ok(false);
     }
     Ok(office.setup.admits(alloc, value.as_str(), modem.as_str())?)
 }
 
-/// Whether a call to that number may begin at `t`. The store is asked for its calls only if its hours have `t`.
+/// Whether a call to that number may begin at that minute of the week. The store is asked for its calls only if its hours have the minute.
 fn may_call<S: Alter>(
     candidates: &mut Candidates<'_, S>,
     office: &Office,
     alloc: Global,
     finder: &mut Finder<'_>,
     dial: &Dial,
-    t: Moment,
+    minute: &WeekMinute,
 ) -> Result<bool, Fault>
     ensures same_reference { candidates.new.store.ghost_name ≡ candidates.old.store.ghost_name }
     ensures same { (candidates.new.asked ≡ candidates.old.asked) × (candidates.new.page ≡ candidates.old.page)
         × (candidates.new.front ≡ candidates.old.front) × (candidates.new.most ≡ candidates.old.most) }
     ensures consults { Consults S.Store candidates.old.store.now candidates.new.store.now result (λ m.
-        IsFinderOf office.now.controls finder.old → OrNoAnswer result (λ may. (may ≡ may_call
-        (settings_of office.now.setup office.now.controls) dial.now (calls_to dial.now m) t)
-        × IsFinderOf office.now.controls finder.new)) }
+        (t : ℕ) → minute.now ≡ week_minute_at office.now.setup.zone t → IsFinderOf office.now.controls finder.old
+        → OrNoAnswer result (λ may. (may ≡ may_call (settings_of office.now.setup office.now.controls) dial.now
+        (calls_to dial.now m) t) × IsFinderOf office.now.controls finder.new)) }
 {
     let rule = office.rule_by(finder, alloc, dial)?;
-    if !office.is_in_hours(rule, t)? {
+    if !minute.is_in_hours(rule) {
         return Ok(false);
     }
     let calls = candidates.active_to(dial)?;

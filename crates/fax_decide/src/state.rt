@@ -29,7 +29,7 @@ impl Office {
             found ≡ state_with (settings_of self.now.setup self.now.controls) (job_of job.now) calls t) }
     {
         let rule = self.rule_of(alloc, &job.fields().dial)?;
-        let is_in_hours = self.is_in_hours(rule, t)?;
+        let is_in_hours = self.minute_at(t)?.is_in_hours(rule);
         Ok(state_at(job, is_in_hours, calls, u64::from(rule.calls), t))
     }
 }

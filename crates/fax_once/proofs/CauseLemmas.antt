@@ -128,12 +128,12 @@ taken_writable s m t ask effect reply sound lawful by =
 -- ---- no answer
 
 -- where the store gave out, there is none for want of it
-pub gave_out : (r : Result Response Fault) (fault : StoreFault) → IsErrAnd r (λ e. e ≡ fault_of fault) → fault ≡ Unavailable → OnlyNoAnswer r
-gave_out (Ok reply) fault is why = tt
+pub gave_out : {A : Type 0} (r : Result A Fault) (fault : StoreFault) → IsErrAnd r (λ e. e ≡ fault_of fault) → fault ≡ Unavailable → OnlyNoAnswer r
+gave_out (Ok x) fault is why = tt
 gave_out (Err e) fault is why = is ∙ ap fault_of why
 
 -- where a look at the store gives none, that is all that comes of a request
-pub nothing_comes : {S : Type 0} (g : Ghosts S) (old new : SendQueue S) (r : Result Response Fault) (m : Queue) (k : Ledger) (v : Verdict) → Looks g old.store new.store → Means (tables g old) m k
+pub nothing_comes : {S : Type 0} (g : Ghosts S) (old new : SendQueue S) (r : Result Response Fault) (m : Queue) (k : Ledger) (v : Verdict) {X E : Type 0} {from : Result X E} → Looks g old.store new.store from → Means (tables g old) m k
     → IsErr r → (Serves (tables g new) → OnlyNoAnswer r) → ComesTo g old new r m k v
 nothing_comes g old new r m k v looks means none cause = record {
   crash = λ found may. inl (looks.crash found may);

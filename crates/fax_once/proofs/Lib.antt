@@ -7,5 +7,6 @@ pub mod HandledLemmas
 pub mod SessionsLemmas
 mod SaidLemmas
 mod CauseLemmas
+mod AnsweringLemmas
 mod ShutLemmas
 mod RowsLeft

@@ -26,7 +26,7 @@ use Rattle.fax_run.specs.Arrival.{number_of}
 use Rattle.fax_run.specs.Laws.{left_of}
 use Rattle.fax_run.specs.Reading.{IsReading, Reading}
 use Rattle.fax_run.specs.Run.{IsRun, Start, end_of}
-use Rattle.fax_once.specs.Stop.{AreMadeBy, AtEnd, Before, Besides, IsLeftBehind, IsMadeIn, MayLeave, OnlyAcceptedMakeRows, Stops, StopsAnswered, StopsBy, StopsIn, accepts}
+use Rattle.fax_once.specs.Stop.{AreMadeBy, AtEnd, Before, Besides, IsLeftBehind, IsMadeIn, OnlyAcceptedMakeRows, Stops, StopsAnswered, StopsBy, StopsIn, accepts}
 use Rattle.fax_run.specs.Verdict.{Verdict, Told, Repeated, Accepted, IsVerdict, reply_of, verdict}
 use Rattle.fax_once.specs.Handled.{Answers, GivesOut, Handles, IsGivenUp, IsNotAccepted, IsUsed, Leaves, LeavesBy, SaysShut}
 use Rattle.fax_run.specs.declared.arrival.Arrival.{Arrival}
@@ -144,9 +144,6 @@ only_accepted_row law v found not made = true≢false (sym (law v found made) �
 -- what no crash before could leave was made by the verdict, in a store that served
 stops_by_row : (old new : State) (v : Verdict) (found : Trees) → StopsBy old new v → MayFind new found → ¬ MayFind old found → Serves old × AreMadeBy v found
 stops_by_row old new v found stops may not = elim (stops found may) [ inl before ↦ absurd (not before) | inr made ↦ made ]
-
-may_leave_row : (old new : State) (m : Queue) (k : Ledger) (found : Trees) → MayLeave old new m k → MayFind new found → ¬ MayFind old found → Serves old × RowsFound found m k
-may_leave_row old new m k found leaves may not = elim (leaves found may) [ inl before ↦ absurd (not before) | inr made ↦ made ]
 
 -- behind a refusal a crash leaves what one before it could leave
 refused_stop_row : (a : Arrival) (old new : State) (found : Trees) → ((r : Reading) → IsReading a r → r ≡ unknown_modem)

@@ -1,9 +1,8 @@
 -- What comes of an arrival.
-use Rattle.std.proofs.Common.{◌≡◌, ◌⊎◌, ◌<◌, ◌≤◌, inl, inr, ℕ, Bool, true, false, nat_lt, List, Option, Some, None, Ok, Err, refl, sym, ap, subst, ◌∙◌, arith, if◌then◌else◌, not, [], ◌∷◌, filter}
+use Rattle.std.proofs.Common.{◌≡◌, ◌⊎◌, ◌<◌, ◌≤◌, inl, inr, ℕ, Bool, true, false, nat_lt, List, Option, Some, None, refl, sym, ap, subst, ◌∙◌, arith, if◌then◌else◌, not, [], ◌∷◌, filter}
 use Rattle.std.proofs.lemmas.Bool.{cases_Bool}
 use Rattle.std.proofs.lemmas.Bool.Decides.{nat_tests}
 use Rattle.fax_decide.specs.Read.{IsRead}
-use Rattle.std.specs.Prelude.{Result, OnOk, MatchResult}
 use Rattle.std.specs.Str.{bytes_eq}
 use Rattle.sqlite.specs.State.{State, HasCleanDisk}
 use Rattle.fax_job.specs.declared.refusal.Refusal.TheVariants.{FloorHigh, GivenUp, NumberReused}
@@ -16,23 +15,22 @@ use Rattle.fax_core.specs.declared.ask.Ask.TheVariants.{GiveUp}
 use Rattle.fax_core.specs.Clock.{decided_at}
 use Rattle.fax_core.specs.Ageing.{aged}
 use Rattle.fax_core.specs.Machine.{act, stamped, step}
-use Rattle.fax_core.specs.Ledger.{Ledger, greater, with_reply, entry, kept_for, is_through}
+use Rattle.fax_core.specs.Ledger.{Ledger, greater, entry, kept_for, is_through}
 use Rattle.fax_core.specs.Queue.{Queue, Entry}
-use Rattle.fax_core.specs.Reply.{NoKeys}
+use Rattle.fax_core.specs.Reply.{NoKeys, Taken}
 use Rattle.fax_core.specs.Settings.{Settings}
-use Rattle.fax_core.specs.Sound.{Sound}
-use Rattle.fax_core.proofs.StepLemmas.{step_sound}
 use Rattle.fax_tables.specs.Kept.{Tells}
 use Rattle.fax_tables.specs.Tables.{IsAtRest}
 use Rattle.fax_store.specs.Store.{Means, Serves}
 use Rattle.fax_tables.specs.declared.replies.Kept.{Kept}
+use Rattle.fax_once.specs.Acceptance.{kept_after}
 use Rattle.fax_once.specs.Sender.{IsSender}
 use Rattle.fax_run.specs.Arrival.{said_of}
 use Rattle.fax_decide.specs.Decision.{IsTaken, IsRefused as IsRefusedBy}
 use Rattle.fax_decide.specs.Effect.{accepted}
 use Rattle.fax_run.specs.Reading.{post_of}
-use Rattle.fax_run.specs.Verdict.{Verdict, Told, Repeated, Accepted, asked_above, asked_for, decided_new, denied, given_by, is_too_high, kept_with, new_asked, raised_ask, repeated, stepped, taken_once, without}
-use Rattle.fax_once.specs.Handled.{Handles, Leaves, LeavesBy}
+use Rattle.fax_run.specs.Verdict.{Verdict, Told, Repeated, Accepted, asked_above, asked_for, decided_new, denied, given_by, is_too_high, new_asked, raised_ask, repeated, stepped, taken_once, without}
+use Rattle.fax_once.specs.Handled.{Handles, Leaves}
 use Rattle.fax_run.specs.declared.arrival.Arrival.{Arrival}
 use Rattle.fax_decide.specs.declared.effect.Effect.{Effect}
 use Rattle.fax_once.specs.declared.sender.Sender.{Sender}
@@ -163,40 +161,19 @@ pub decided_is : (s : Settings) (a : Arrival) (m : Queue) (k : Ledger) (number t
 decided_is s a m k number t ask now = ap (λ (u : ℕ). stepped (post_of a number ask) k (step s m u ask)) now
 
 -- what is refused is told
-pub refused_leaves : (s : Settings) (a : Arrival) (m : Queue) (k : Ledger) (sender : Sender) (t : ℕ) (ask : Ask) (reply : Response) (store : State)
-    → t ≡ decided_at m.clock a.moment → IsRefusedBy (act s (aged t m) t ask) reply → Means store m k → Leaves m k reply store (decided_new s m k (post_of a sender.number ask))
-refused_leaves s a m k sender t ask reply store now by rests =
-    subst (Leaves m k reply store)
-    (ap (stepped (post_of a sender.number ask) k) (sym (ap (stamped t (aged t m)) by.refused)) ∙ decided_is s a m k sender.number t ask now)
-    (by.replied, rests)
+pub refused_is : (s : Settings) (a : Arrival) (m : Queue) (k : Ledger) (number t : ℕ) (ask : Ask) (reply : Response) → t ≡ decided_at m.clock a.moment
+    → IsRefusedBy (act s (aged t m) t ask) reply → Told reply ≡ decided_new s m k (post_of a number ask)
+refused_is s a m k number t ask reply now by =
+    ap (λ (r : Response). Told r) by.replied ∙ ap (stepped (post_of a number ask) k) (sym (ap (stamped t (aged t m)) by.refused)) ∙ decided_is s a m k number t ask now
 
--- what is taken is accepted, and leaves a sound queue
-taken_leaves : (s : Settings) (a : Arrival) (m : Queue) (k : Ledger) (sender : Sender) (t : ℕ) (ask : Ask) (effect : Effect) (given : Option ℕ) (reply : Response) (store : State)
-    → given ≡ given_by ask → Sound m → IsLawfulAsk ask → IsSender a sender → t ≡ decided_at m.clock a.moment → IsTaken (act s (aged t m) t ask) m t effect reply
-    → Serves store → IsAtRest store (accepted t effect m) (with_reply (entry sender.client.now sender.number (said_of a) reply.status reply.body) (without sender.client.now given k))
-    → Leaves m k reply store (decided_new s m k (post_of a sender.number ask))
-taken_leaves s a m k sender t ask effect given reply store gives_so sound lawful from now by serves rests =
-    subst (Leaves m k reply store)
-    (ap (stepped (post_of a sender.number ask) k) (sym by.taken) ∙ decided_is s a m k sender.number t ask now) (
-      by.replied,
-      serves,
-      subst (λ (r : Response). IsAtRest store (accepted t effect m) (kept_with (post_of a sender.number ask) k r)) by.replied
-          (rw (← from.client, ← gives_so) rests),
-      step_sound s m (accepted t effect m) t ask by.told sound lawful by.taken,
-    )
-
--- what is known of the decision, and what its acceptance leaves
-pub accepted_leaves : {E : Type 0} (result : Result Response E) (s : Settings) (a : Arrival) (m : Queue) (k : Ledger) (sender : Sender) (t : ℕ) (ask : Ask) (effect : Effect) (given : Option ℕ) (reply : Response) (old new : State)
-    → given ≡ given_by ask → Sound m → IsLawfulAsk ask → IsSender a sender
-    → (Serves old → t ≡ decided_at m.clock a.moment) → (Serves old → IsTaken (act s (aged t m) t ask) m t effect reply)
-    → OnOk result (Serves new → Serves old) → OnOk result (HasCleanDisk new → Serves new)
-    → MatchResult result (λ told. (told ≡ reply) × Means new (accepted t effect m) (with_reply (entry sender.client.now sender.number (said_of a) reply.status reply.body) (without sender.client.now given k))) (λ _. Means new m k)
-    → HasCleanDisk new → LeavesBy m k result new (decided_new s m k (post_of a sender.number ask))
-accepted_leaves (Ok told) s a m k sender t ask effect given reply old new gives_so sound lawful from now by served opens made clean =
-    let serves = opens clean in
-    let before = served serves in
-    subst (λ (r : Response). Leaves m k r new (decided_new s m k (post_of a sender.number ask))) (sym made.0) (taken_leaves s a m k sender t ask effect given reply new gives_so sound lawful from (now before) (by before) serves (made.1 serves))
-accepted_leaves (Err e) s a m k sender t ask effect given reply old new gives_so sound lawful from now by served opens made clean = made
+-- what is taken is accepted
+pub accepted_is : (s : Settings) (a : Arrival) (m : Queue) (k : Ledger) (sender : Sender) (t : ℕ) (ask : Ask) (effect : Effect) (given : Option ℕ) (reply : Response)
+    → given ≡ given_by ask → IsSender a sender → t ≡ decided_at m.clock a.moment → IsTaken (act s (aged t m) t ask) m t effect reply
+    → Accepted (accepted t effect m) (kept_after sender (said_of a) reply given k) reply ≡ decided_new s m k (post_of a sender.number ask)
+accepted_is s a m k sender t ask effect given reply gives_so from now by =
+    let is : Accepted (accepted t effect m) (kept_after sender (said_of a) reply given k) reply ≡ stepped (post_of a sender.number ask) k (Taken (accepted t effect m) by.told) =
+    rw (from.client, gives_so, by.replied) refl in
+    is ∙ ap (stepped (post_of a sender.number ask) k) (sym by.taken) ∙ decided_is s a m k sender.number t ask now
 
 -- what is lawful to ask
 pub lawful_ask : (ask : Ask) → IsLawfulStep ask → IsLawfulAsk ask

@@ -3,7 +3,7 @@ use Rattle.std.specs.Prelude.{◌≡◌, ℕ, OnOk, Result}
 use Rattle.sqlite.specs.Effect.{Database}
 use Rattle.sqlite.specs.State.{State, HasCleanDisk}
 use Rattle.sqlite_trees.specs.declared.store.Store.{Ghosts}
-use Rattle.fax_ask.specs.Ask.{IsAsk, IsLawful, IsLawfulStep}
+use Rattle.fax_ask.specs.Ask.{IsAsk, IsLawful}
 use Rattle.fax_ask.specs.Response.{Response}
 use Rattle.fax_ask.specs.declared.ask.Ask.{Ask}
 use Rattle.fax_ask.specs.declared.method.Method.TheVariants.{Get}
@@ -15,7 +15,6 @@ use Rattle.fax_core.specs.Settings.{Settings}
 use Rattle.fax_core.specs.Sound.{Sound}
 use Rattle.fax_core.specs.declared.ask.Ask.{Ask as Step}
 use Rattle.fax_decide.specs.Fault.{OnlyNoAnswer, OrNoAnswer}
-use Rattle.fax_decide.specs.Read.{IsRead}
 use Rattle.fax_decide.specs.Settings.{settings_of}
 use Rattle.fax_run.specs.View.{view}
 use Rattle.fax_decide.specs.declared.fault.Fault.{Fault}
@@ -23,7 +22,7 @@ use Rattle.fax_schema.specs.Schema.{our_tables}
 use Rattle.fax_store.specs.Calls.{Looks, shown}
 use Rattle.fax_store.specs.Kept.{HasReply, IsUnkept}
 use Rattle.fax_store.specs.Store.{Means, Rests, Serves, Stays}
-use Rattle.fax_once.specs.Sender.{IsSender}
+use Rattle.fax_once.specs.Sender.{AsksStep}
 use Rattle.fax_run.specs.Reading.{post_of}
 use Rattle.fax_once.specs.Stop.{Stops, StopsBy}
 use Rattle.fax_once.specs.Handled.{Answers, IsGivenUp, IsNotAccepted, IsUsed, LeavesBy, ReachesTo}
@@ -40,12 +39,6 @@ settings queue = settings_of queue.office.setup queue.office.controls
 pub record AsksFor (a : Arrival) (ask : Ask) : Type 0 where
   pub is : IsAsk a.method a.path.now a.body.now ask
   pub lawful : IsLawful ask
-
--- this sender asks for this step
-pub record AsksStep (a : Arrival) (sender : Sender) (ask : Step) : Type 0 where
-  pub from : IsSender a sender
-  pub lawful : IsLawfulStep ask
-  pub read : IsRead ask
 
 module _ {S : Type 0} (g : Ghosts S) where
   -- what its database shows
@@ -86,7 +79,7 @@ module _ {S : Type 0} (g : Ghosts S) where
     -- The office stays.
     pub office : new.office ≡ old.office
     -- The store was only looked at.
-    pub leaves : Looks g old.store new.store
+    pub leaves : Looks g old.store new.store result
     -- Where there is a reply, the store serves as long as the disk is clean.
     pub opens : OnOk result (HasCleanDisk (tables new) → Serves (tables new))
     -- While the store serves, the reply is the view at the later of that moment and the clock, or memory or the store gave none.

@@ -43,10 +43,6 @@ abbrev pub StopsAnswered : Settings → Arrival → Queue → Ledger → Respons
 StopsAnswered s a m k reply old new =
     MayMake old new (λ found. (v : Verdict) × IsVerdict s a m k v × AreMadeBy v found × ((new.is_open ≡ true) ⊎ (reply ≡ refused_response Unavailable NoKeys)))
 
--- A crash leaves what a crash before could leave, or, where the store served, rows that mean this.
-abbrev pub MayLeave : State → State → Queue → Ledger → Type 0
-MayLeave old new m k = MayMake old new (λ found. Serves old × RowsFound found m k)
-
 -- These are the rows that one of the arrivals makes, by its verdict after what was heard of those before it, by their replies. It was answered 503, and nothing was taken since.
 pub record IsMadeIn (s : Settings) (start : Start) (arrivals : List Arrival) (replies : List Response) (heard : List Reading) (found : Trees) : Type 0 where
   pub before : List Arrival

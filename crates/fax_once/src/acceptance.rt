@@ -1,55 +1,134 @@
-//! Accepting a request: its effect and its kept reply, in one transaction.
+//! A request whose number is new is decided within a work, by the tables as they stand there, and what it changes is written
+//! there with its reply.
 
-ghost use Rattle.std.specs.Prelude.{⊤, OnOk};
+ghost use Rattle.std.specs.Prelude.{◌≡◌, ◌<◌, ◌^◌, ⊤, false, OnOk};
 ghost use Rattle.fax_decide.specs.Effect.{Suits, accepted};
+ghost use Rattle.fax_decide.specs.Settings.{settings_of};
 ghost use Rattle.fax_store.specs.Job.{with_expired};
 ghost use Rattle.fax_core.specs.Ledger.{IsKeptStatus};
 ghost use Rattle.fax_value.specs.Name.{IsName};
-ghost use Rattle.fax_once.specs.Acceptance.{Accepts, IsAcceptable, WritesWithin, kept_after};
+ghost use Rattle.fax_once.specs.Acceptance.{Accepts, AnswersWithin, DecidesNow, DecidesWithin, IsAcceptable, WritesWithin, kept_after};
 ghost use Rattle.fax_run.specs.Arrival.{said_of};
 ghost use Rattle.fax_run.specs.Verdict.{without};
 
 use crate::arrival::said_by;
+use crate::floor::{given_by, raised};
 use crate::sender::Sender;
 use fax_ask::Reply;
-use fax_decide::{Effect, Fault};
-use fax_job::{Moment, RequestNumber};
+use fax_core::Ask;
+use fax_decide::{Decision, Effect, Fault, Office, decide};
+use fax_job::{Moment, Refusal, RequestNumber};
 use fax_run::Arrival;
 use fax_store::{Store, StoreFault, Work};
 use sqlite::Alter;
 use std::alloc::Global;
 
-/// What an accepted request changes, beside the reply that is kept.
+/// The reply to a request whose number is new.
 #[derive(Drop)]
-pub(crate) struct Change {
-    /// What it changes in the queue.
-    pub effect: Effect,
-    /// Through which number its client gives up its replies, if it does.
-    pub given: Option<RequestNumber>,
+pub(crate) enum Answered {
+    /// It is refused, and changes nothing.
+    Refused(Reply),
+    /// It is accepted. What it changes is written, and so is this reply, which is kept.
+    Accepted(Reply),
 }
 
-/// Accepts a request that is taken: ages the queue at `decided_at`, makes the change, sets the clock and keeps the reply,
-/// all in one transaction.
+/// What an accepted request changes, beside the reply that is kept.
+#[derive(Drop)]
+struct Change {
+    /// What it changes in the queue.
+    effect: Effect,
+    /// Through which number its client gives up its replies, if it does.
+    given: Option<RequestNumber>,
+}
+
+/// What is decided of a request, and when.
+#[derive(Drop)]
+struct Decided {
+    t: Moment,
+    decision: Decision,
+}
+
+/// Decides a request whose number is new, at the later of its moment and the clock, and writes what it changes. Nothing is
+/// committed. No client gives up the reply to the very request by which it does.
 ///
 /// # Errors
 ///
-/// Want of memory and the faults of the store; the tables are as they were.
-pub(crate) fn accept<S: Alter>(
+/// Want of memory and the faults of the store. Then nothing has changed in the work, or it can't be committed.
+pub(crate) fn answer_new<S: Alter>(
+    work: &mut Work<'_, S>,
+    office: &Office,
+    alloc: Global,
+    arrival: &Arrival<'_>,
+    sender: &Sender<'_>,
+    ask: Ask,
+    floor: u64,
+) -> Result<Answered, Fault>
+    requires on { work.old.failed ≡ false }
+    requires bounded { floor < 10 ^ 18 }
+    ensures { AnswersWithin S.Store work.old work.new result (settings_of office.now.setup office.now.controls) arrival.now
+        sender.now ask floor }
+{
+    let Some(ask) = raised(ask, sender.number, floor) else {
+        return Ok(Answered::Refused(Reply::refused(Refusal::FloorHigh)));
+    };
+    let given = given_by(&ask);
+    let Decided { t, decision } = decide_within(work, office, alloc, ask, arrival.moment)?;
+    match decision {
+        Decision::Taken { effect, reply } => {
+            let change = Change { effect, given };
+            accept(work, alloc, arrival, sender, t, &change, reply)
+        }
+        Decision::Refused(reply) => Ok(Answered::Refused(reply)),
+    }
+}
+
+/// Decides a request at the later of a moment and the clock, by the tables as they stand within the work.
+fn decide_within<S: Alter>(
+    work: &mut Work<'_, S>,
+    office: &Office,
+    alloc: Global,
+    ask: Ask,
+    moment: Moment,
+) -> Result<Decided, Fault>
+    requires { work.old.failed ≡ false }
+    ensures { DecidesWithin S.Store work.old work.new result (settings_of office.now.setup office.now.controls) ask moment }
+{
+    let decided = decide_now(work.store, office, alloc, ask, moment);
+    work.check();
+    decided
+}
+
+/// Decides a request at the later of a moment and the clock, by the tables as they stand now.
+fn decide_now<S: Alter>(
     store: &mut Store<S>,
+    office: &Office,
+    alloc: Global,
+    ask: Ask,
+    moment: Moment,
+) -> Result<Decided, Fault>
+    ensures { DecidesNow S.Store store.old store.new result (settings_of office.now.setup office.now.controls) ask moment }
+{
+    let meta = store.meta()?;
+    let t = meta.clock.later(moment);
+    let decision = decide(store, office, alloc, ask, &meta, t)?;
+    Ok(Decided { t, decision })
+}
+
+/// Accepts a request that is taken: ages the queue at `decided_at`, makes the change, sets the clock and keeps the reply.
+fn accept<S: Alter>(
+    work: &mut Work<'_, S>,
     alloc: Global,
     arrival: &Arrival<'_>,
     sender: &Sender<'_>,
     decided_at: Moment,
     change: &Change,
     reply: Reply,
-) -> Result<Reply, Fault>
-    ensures { Accepts S.Store store.old store.new result decided_at change.now sender.now (said_of arrival.now) reply }
+) -> Result<Answered, Fault>
+    ensures { Accepts S.Store work.old work.new result decided_at change.now sender.now (said_of arrival.now) reply }
 {
     let said = said_by(alloc, arrival)?;
-    let mut work = store.begin()?;
-    write_accepted(&mut work, decided_at, change, sender, &said, &reply)?;
-    work.commit()?;
-    Ok(reply)
+    write_accepted(work, decided_at, change, sender, &said, &reply)?;
+    Ok(Answered::Accepted(reply))
 }
 
 /// The writes of an accepted request.
@@ -62,6 +141,7 @@ fn write_accepted<S: Alter>(
     reply: &Reply,
 ) -> Result<(), StoreFault>
     ensures kept { OnOk result (IsKeptStatus reply.now.status) }
+    ensures goes_on { OnOk result (work.new.failed ≡ false) }
     ensures writes { WritesWithin S.Store work.old work.new result (λ m. Suits change.now.effect (with_expired decided_at m))
         (accepted decided_at change.now.effect) (kept_after sender.now said.now reply.now change.now.given)
         (IsAcceptable decided_at change.now sender.now reply.now) }

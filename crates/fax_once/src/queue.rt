@@ -22,15 +22,14 @@ ghost use Rattle.fax_once.specs.Queue.{AnswersAsk, AnswersNew, AnswersStep, From
 ghost use Rattle.fax_once.specs.Stop.{Stops, StopsAnswered, StopsIn};
 ghost use Rattle.fax_run.specs.declared.arrival.Arrival.{Arrival as ArrivalOf};
 
-use crate::acceptance::{Change, accept};
+use crate::acceptance::{Answered, answer_new};
 use crate::arrival::{get, says};
-use crate::floor::{given_by, raised};
 use crate::laws::{no_verdict_is_unavailable, one_verdict};
 use crate::refusing::refuse_ask;
 use crate::sender::Sender;
 use fax_ask::{Ask, Reply, Routes, View};
 use fax_core::Ask as Step;
-use fax_decide::{Decision, Fault, Office, decide, show};
+use fax_decide::{Fault, Office, show};
 use fax_dest::{Controls, Setup};
 use fax_job::{Moment, Refusal};
 use fax_run::Arrival;
@@ -270,8 +269,7 @@ impl<S: Alter> Queue<S> {
         }
     }
 
-    /// Decides a request whose number is new, at the later of its moment and the clock. It is accepted where it is taken,
-    /// and changes nothing where it is refused. No client gives up the reply to the very request by which it does.
+    /// Answers a request whose number is new, by the tables within the work that its change is made in.
     fn step_once(
         &mut self,
         alloc: Global,
@@ -283,19 +281,13 @@ impl<S: Alter> Queue<S> {
         requires { floor < 10 ^ 18 }
         ensures { AnswersNew S.Store self.old self.new result arrival.now sender.now ask floor }
     {
-        let Some(ask) = raised(ask, sender.number, floor) else {
-            return Ok(Reply::refused(Refusal::FloorHigh));
-        };
-        let given = given_by(&ask);
-        let meta = self.store.meta()?;
-        let t = meta.clock.later(arrival.moment);
-        let decision = decide(&mut self.store, &self.office, alloc, ask, &meta, t)?;
-        match decision {
-            Decision::Taken { effect, reply } => {
-                let change = Change { effect, given };
-                accept(&mut self.store, alloc, arrival, sender, t, &change, reply)
+        let mut work = self.store.begin()?;
+        match answer_new(&mut work, &self.office, alloc, arrival, sender, ask, floor)? {
+            Answered::Refused(reply) => Ok(reply),
+            Answered::Accepted(reply) => {
+                work.commit()?;
+                Ok(reply)
             }
-            Decision::Refused(reply) => Ok(reply),
         }
     }
 }

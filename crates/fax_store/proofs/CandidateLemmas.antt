@@ -3,7 +3,7 @@ use Rattle.std.proofs.Common.{◌≡◌, Ok, Err, IsErrAnd, ◌<◌, ◌≤◌, 
 use Rattle.fax_tables.proofs.ResultLemmas.{answered}
 use Rattle.fax_tables.specs.declared.fault.StoreFault.{StoreFault}
 use Rattle.fax_tables.specs.declared.fault.StoreFault.TheVariants.{Unavailable}
-use Rattle.fax_store.specs.Store.{Means, Serves}
+use Rattle.fax_store.specs.Store.{MeansNow, Serves}
 use Rattle.fax_store.specs.declared.candidates.Candidates.{Candidates}
 use Rattle.std.specs.Vec.Iter.{into_iter_items}
 use Rattle.std.specs.declared.vec.IntoIter.{IntoIter}
@@ -20,7 +20,7 @@ use Rattle.std.proofs.lemmas.Map.Text.{is_eq-slice_cmp}
 use Rattle.std.proofs.lemmas.Cmp.{nat_cmp_total, on_total, then_total}
 use Rattle.std.proofs.lemmas.List.{map-append, take-map, nil_from_length, length-map, length-take, length_push, get_or_push}
 use Rattle.std.proofs.lemmas.Option.{none-some, same_Some, slice_get_read, slice_get-get_or}
-use Rattle.std.proofs.lemmas.List.Elements.{All-take, recursion_from_All, All-from_recursion, filter_agree, filter_passes}
+use Rattle.std.proofs.lemmas.List.Elements.{All-take, recursion_from_All, filter_agree, filter_passes}
 use Rattle.std.proofs.lemmas.List.Sorted.{All-permutation, IsPermutation-sym, IsPermutation-trans}
 use Rattle.sqlite.specs.Effect.{Database}
 use Rattle.sqlite.specs.Order.{Row}
@@ -44,11 +44,11 @@ use Rattle.sqlite_trees.proofs.ListLemmas.{all_of, all_both, all_weaker, ascendi
 use Rattle.fax_core.specs.Job.{Job, fields_of}
 use Rattle.fax_core.specs.Best.{better}
 use Rattle.fax_core.specs.Ledger.{Ledger}
-use Rattle.fax_core.specs.Queue.{Queue, job_numbered}
+use Rattle.fax_core.specs.Queue.{Queue}
 use Rattle.fax_core.specs.State.{is_due}
 use Rattle.fax_core.proofs.RecordLemmas.{within_limits_of}
 use Rattle.fax_value.specs.Limits.{last_job}
-use Rattle.fax_store.specs.Candidates.{Advances, AreAsked, IsPage, Reaches, StandsAt, front_of, is_behind, is_beyond, is_last, is_near, is_other, longest_page, next_front, value_of}
+use Rattle.fax_store.specs.Candidates.{AreAsked, IsPage, Reaches, StandsAt, front_of, is_behind, is_beyond, is_last, is_near, is_other, longest_page, next_front, value_of}
 use Rattle.fax_store.specs.declared.candidates.Asked.{Asked}
 use Rattle.fax_store.specs.Job.{AreWaiting}
 use Rattle.fax_store.specs.declared.candidates.Front.{Front}
@@ -62,6 +62,7 @@ use Rattle.fax_layout.proofs.SelectLemmas.{each_passing}
 use Rattle.fax_tables.proofs.TablesLemmas.{row_of}
 use Rattle.fax_store.proofs.JobsLemmas.{ascend, Below}
 use Rattle.fax_schema.proofs.StatementTexts.{SelectsPage, page_query, prospect_project}
+use Rattle.fax_store.proofs.FrameLemmas.{looks_err}
 use Rattle.fax_store.proofs.JobsLemmas as waiting
 use Rattle.fax_store.proofs.RisingLemmas.{Comes, HasNoTies, rises_sorted}
 
@@ -493,33 +494,21 @@ module _ (db : Database) (m : Queue) (k : Ledger) (means : TablesMean db m k) (a
   pub given_lawful : IsLawfulJob j
   given_lawful = of_all IsLawfulJob means.lawful.jobs
 
-  -- its number finds it
-  pub given_there : job_numbered j.number m ≡ Some j
-  given_there =
-      of_all (λ (j : Job). job_numbered j.number m ≡ Some j)
-      (All-from_recursion (λ (j : Job). job_numbered j.number m ≡ Some j) m.jobs (each_found m.jobs (rises db m k means asked.t)))
-
 -- ---- what a refusal leaves
 
 -- one that is passed on says nothing of an answer, and is for want of the store alone where that was
 module _ {S Z A : Type 0} (g : Ghosts S) {old new : Candidates S (IntoIter Row Z) Asked} {fault : StoreFault}
-    (same : new.store.ghost_name ≡ old.store.ghost_name) (asked : new.asked ≡ old.asked) (leaves : Looks g old.store.now new.store.now)
-    (why : (m : Queue) (k : Ledger) (given : List Job) → Means (shown_by g old.store.now) m k → Serves (shown_by g new.store.now)
+    (same : new.store.ghost_name ≡ old.store.ghost_name) (asked : new.asked ≡ old.asked) {X : Type 0} {from : Result X StoreFault} (leaves : Looks g old.store.now new.store.now from)
+    (why : (m : Queue) (k : Ledger) (given : List Job) → MeansNow (shown_by g old.store.now) m k → Serves (shown_by g new.store.now)
     → StandsAt old.asked m given (into_iter_items old.page) old.front old.most → fault ≡ Unavailable) where
-  pub advances_err : {Finds : Queue → List Job → A → Type 0} (result : Result A StoreFault) → IsErrAnd result (λ e. e ≡ fault)
-      → Advances g old new result Finds
-  advances_err (Ok a) told = absurd told
-  advances_err (Err e) told = record {
-    same_reference = same;
-    leaves = leaves;
-    opens = tt;
-    asked = asked;
-    found = λ m k given means s stands. told ∙ why m k given means s stands;
-  }
-
   pub reaches_err : {IsEnd : A → Type 0} {Finds : Queue → List Job → A → Type 0} (result : Result A StoreFault) → IsErrAnd result (λ e. e ≡ fault)
       → Reaches g old new result IsEnd Finds
   reaches_err (Ok a) told = absurd told
-  reaches_err {Finds = Finds} (Err e) told =
-      let advances = advances_err {Finds = Finds} (Err e) told in
-      record { same_reference = same; leaves = leaves; opens = tt; none = tt; asked = asked; found = advances.found }
+  reaches_err (Err e) told = record {
+    same_reference = same;
+    leaves = looks_err g leaves;
+    opens = tt;
+    none = tt;
+    asked = asked;
+    found = λ m k given means s stands. told ∙ why m k given means s stands;
+  }

@@ -1,20 +1,21 @@
 -- What calls leave, one after the other.
-use Rattle.std.proofs.Common.{◌≡◌, inl, MatchResult, ℕ, List, false, Ok, Err, Result, IfOk, OnOk, IsErr, IsErrAnd, Option, is_err, ap, refl, subst, sym, ◌∙◌, Bool}
-use Rattle.fax_store.proofs.StoreLemmas.{clean_in, served}
+use Rattle.std.proofs.Common.{◌≡◌, inl, inr, MatchResult, ℕ, List, false, Ok, Err, Result, OnOk, IsErr, IsErrAnd, Option, is_err, not, ap, refl, subst, sym, ◌∙◌, Bool}
+use Rattle.fax_store.proofs.StoreLemmas.{clean_in, same_tables, served}
 use Rattle.fax_store.proofs.StatementLemmas.{left_open, run_open}
 use Rattle.std.specs.Prelude.{⊤}
 use Rattle.std.proofs.lemmas.Bool.{false≢true}
 use Rattle.sqlite.specs.Order.{Row}
-use Rattle.sqlite.specs.State.{State, Executes, HasCleanDisk, Survives, CommitsBy}
+use Rattle.sqlite.specs.State.{State, Executes, IsUnchanged, HasCleanDisk, Survives, CommitsBy}
 use Rattle.sqlite.specs.declared.error.Error.{Error}
 use Rattle.sqlite_trees.specs.declared.store.Store.{Ghosts}
 use Rattle.fax_core.specs.Ledger.{Ledger}
 use Rattle.fax_core.specs.Queue.{Queue}
 use Rattle.sqlite.proofs.InsideLemmas.{unchanged_keeps}
+use Rattle.sqlite.proofs.StateLemmas.{unchanged}
 use Rattle.sqlite.specs.Effect.{Database}
 use Rattle.fax_store.specs.Adopt.{Tests}
-use Rattle.fax_store.specs.Calls.{Answers, AnswersRows, Calls, Edits, Finds, Follows, Inserts, Looks, Makes, MakesIf, MakesIfWhere, MakesWhere, Queries, Runs, Tells, TellsLawful, TellsRows, TellsRowsLawful, Writes, WritesIf, WritesIfWhere, WritesWhere, shown, within}
-use Rattle.fax_store.specs.Work.{IsOnlyUnavailable, IsUnderWay, Moves, Steps, Works}
+use Rattle.fax_store.specs.Calls.{Answers, Calls, Edits, Finds, Follows, Inserts, Looks, Makes, MakesIf, MakesIfWhere, MakesWhere, Queries, Runs, Writes, WritesIf, WritesIfWhere, WritesWhere, shown, within}
+use Rattle.fax_store.specs.Work.{IsOnlyUnavailable, IsUnderWay, Keeps, Moves, Steps, Works}
 use Rattle.fax_store.specs.Store.{CommitsNothing, FindsRow, HasRun, HasTables, Means, MeansNow, Reads, Serves, IsEditText, LeavesCommit}
 use Rattle.fax_store.specs.declared.store.Store.{Store}
 use Rattle.fax_store.specs.declared.work.Work.{Work}
@@ -25,7 +26,7 @@ use Rattle.fax_tables.specs.Tables.{TablesMean}
 use Rattle.fax_tables.specs.declared.fault.StoreFault.{StoreFault}
 use Rattle.fax_tables.specs.declared.fault.StoreFault.TheVariants.{Unavailable}
 use Rattle.fax_store.proofs.StopLemmas.{withholds_by, withholds_then, edit_withholds, refused_withholds}
-use Rattle.fax_store.proofs.WorkLemmas.{found_in, holds_by, holds_then, keeps_by, moved_by, reads_same, reads_then, stays_by, steps_fault, edit_holds, left_holds, never_ok}
+use Rattle.fax_store.proofs.WorkLemmas.{committed_is, holds_by, holds_then, left_by, moved_by, reads_same, reads_then, stays_by, steps_fault, edit_holds, left_holds, never_ok}
 pub use Rattle.fax_tables.proofs.ResultLemmas.{on_err, or_weaker, passes_on, popped}
 pub use Rattle.fax_store.proofs.WorkLemmas.{err_as, goes_on, inside_by, move_by, moves_by, moves_of, ok_as, only_unavailable, reads_refused, refused_as, refused_steps, step_by, step_of, steps_where, there_as}
 
@@ -62,12 +63,6 @@ module _ {S : Type 0} (g : Ghosts S) where
       (λ tables clean. let same = first.reads tables (next.clean clean) in reads_then (shown g old) (shown g mid) (shown g new) result same (next.reads (ap (λ (d : Database). d.schema) same.0.now_is ∙ tables) clean))
       (λ found may. first.crash found (next.crash found may))
 
-  -- and the tables mean after one what they meant before
-  pub means_then : (old mid : Store S) {A : Type 0} (x : A) → Finds g old mid (Ok x) → (m : Queue) (k : Ledger) → MeansNow (shown g old) m k → MeansNow (shown g mid) m k
-  means_then old mid x finds m k means serves =
-      let was = means (finds.served serves) in
-      subst (λ (d : Database). TablesMean d m k) (sym (finds.reads was.schema serves.clean).0.now_is) was
-
   -- a test of what it reads is of the tables
   pub tests_by : {X : Database → Type 0} {old new : Store S} {A : Type 0} {x : A} (result : Result (Unit {0}) StoreFault) → Finds g old new (Ok x)
       → (HasTables (shown g old) → HasCleanDisk (shown g new) → MatchResult result (λ _. X (shown g old).now) (λ _. ¬ X (shown g old).now))
@@ -88,17 +83,61 @@ module _ {S : Type 0} (g : Ghosts S) where
   }
 
   -- it changes nothing
-  pub looks_of : (old new : Store S) {A : Type 0} (result : Result A StoreFault) → Finds g old new result → Looks g old new
-  looks_of old new result finds = record { served = finds.served; clean = finds.clean; stays = finds.stays; crash = finds.crash }
+  pub looks_of : {old new : Store S} {A : Type 0} {result : Result A StoreFault} → Finds g old new result → Looks g old new result
+  looks_of finds = record { served = finds.served; clean = finds.clean; reads = λ tables is_open clean. finds.reads tables clean; stays = finds.stays; crash = finds.crash }
 
-  -- and nor do two calls that change nothing
-  pub looks_then : (old between new : Store S) → Looks g old between → Looks g between new → Looks g old new
-  looks_then old between new first next = record {
+  -- and nor do two calls that change nothing, of which the first answers
+  pub looks_then : {old between new : Store S} {A B E F : Type 0} {x : A} {result : Result B F} → Looks g {E = E} old between (Ok x) → Looks g between new result
+      → Looks g old new result
+  looks_then {old} {between} {new} {result = result} first next = record {
     served = λ serves. first.served (next.served serves);
     clean = λ clean. first.clean (next.clean clean);
+    reads = λ tables is_open clean. let same = first.reads tables is_open (next.clean clean) in
+        reads_then (shown g old) (shown g between) (shown g new) result same (next.reads (ap (λ (d : Database). d.schema) same.0.now_is ∙ tables) same.0.is_open clean);
     stays = λ db ours rests. next.stays db ours (first.stays db ours rests);
     crash = λ found may. first.crash found (next.crash found may);
   }
+
+  -- no call
+  pub looks_at : {store : Store S} {A E : Type 0} {result : Result A E} → Looks g store store result
+  looks_at {store} {result = result} = record {
+    served = λ serves. serves;
+    clean = λ clean. clean;
+    reads = λ tables is_open clean. reads_same (shown g store) (shown g store) result (unchanged (shown g store) is_open);
+    stays = λ db ours rests. rests;
+    crash = λ found may. may;
+  }
+
+  -- what an answer leaves is left, whatever is made of it
+  pub looks_as : {old new : Store S} {A B E F : Type 0} {x : A} {result : Result B F} → Looks g {E = E} old new (Ok x) → Looks g old new result
+  looks_as looks = looks_then looks looks_at
+
+  -- and a refusal that is passed on leaves what it left
+  pub looks_err : {old new : Store S} {A B E F : Type 0} {from : Result A E} {fault : F} → Looks g old new from → Looks g {A = B} old new (Err fault)
+  looks_err {old} {new} {from = from} looks = record {
+    served = looks.served;
+    clean = looks.clean;
+    reads = λ tables is_open clean. left_by (shown g old) (shown g new) from (looks.reads tables is_open clean);
+    stays = looks.stays;
+    crash = looks.crash;
+  }
+
+  pub looks_stop : {old new : Store S} {A B E F : Type 0} {from : Result A E} (result : Result B F) (P : F → Type 0) → IsErrAnd result P → Looks g old new from
+      → Looks g old new result
+  looks_stop (Ok x) P is looks = absurd is
+  looks_stop (Err fault) P is looks = looks_err looks
+
+  -- the tables mean then what they did
+  pub means_on : {old between : Store S} {A E : Type 0} {x : A} → Looks g {E = E} old between (Ok x) → (m : Queue) (k : Ledger) → MeansNow (shown g old) m k
+      → MeansNow (shown g between) m k
+  means_on looks m k means serves =
+      let before = looks.served serves in
+      let was = means before in
+      subst (λ (d : Database). TablesMean d m k) (sym (looks.reads was.schema before.is_open serves.clean).0.now_is) was
+
+  -- and the tables mean after one what they meant before
+  pub means_then : (old mid : Store S) {A : Type 0} (x : A) → Finds g old mid (Ok x) → (m : Queue) (k : Ledger) → MeansNow (shown g old) m k → MeansNow (shown g mid) m k
+  means_then old mid x finds = means_on (looks_of finds)
 
   -- a reading commits nothing within a work
   pub runs_of : {old new : Store S} {A : Type 0} {result : Result A StoreFault} → Finds g old new result → Runs g old new result
@@ -240,6 +279,16 @@ module _ {S : Type 0} (g : Ghosts S) where
   pub follows_of : (old new : Work S) {A : Type 0} (result : Result A StoreFault) → Calls g old new result → Follows g old new
   follows_of old new result calls = record { same_reference = calls.same_reference; served = calls.served; clean = calls.clean; holds = calls.holds; crash = calls.crash }
 
+  -- no call
+  pub follows_at : (work : Work S) → Follows g work work
+  follows_at work = record {
+    same_reference = refl;
+    served = λ serves. serves;
+    clean = λ clean. clean;
+    holds = λ db over serves. over serves;
+    crash = λ active. (active, λ found may. may);
+  }
+
   pub follows_then : (old between new : Work S) → Follows g old between → Follows g between new → Follows g old new
   follows_then old between new first next = record {
     same_reference = next.same_reference ∙ first.same_reference;
@@ -248,6 +297,56 @@ module _ {S : Type 0} (g : Ghosts S) where
     holds = λ db over serves. next.holds db (λ was. first.holds db over was) serves;
     crash = withholds_then (within g old) (within g between) (within g new) _ first.crash next.crash;
   }
+
+  -- where no call was refused before, a look at its store leaves the work under way, or undoes it
+  module _ (old new : Work S) {A E : Type 0} {result : Result A E} (on : old.failed ≡ false) (same : new.store.ghost_name ≡ old.store.ghost_name)
+      (looks : Looks g old.store.now new.store.now result) (fails : new.failed ≡ not (within g new).in_transaction) where
+    -- what is left under way is as it was
+    left_on : LeavesCommit (within g old) (within g new) → new.failed ≡ false → IsUnchanged (within g old) (within g new)
+    left_on (inl same) goes = same
+    left_on (inr undone) goes = absurd (false≢true (sym goes ∙ fails ∙ ap not undone.autocommit))
+
+    -- what was committed still is
+    pub looks_follow : Follows g old new
+    looks_follow = record {
+      same_reference = same;
+      served = looks.served;
+      clean = looks.clean;
+      holds = λ db over serves.
+          let before = looks.served serves in
+          let was = over before in
+          let inside = was.goes_on on in
+          let left = left_by (within g old) (within g new) result (looks.reads inside.1 before.is_open serves.clean) in
+          record {
+            began = committed_is (within g old) (within g new) left serves.is_open ∙ was.began;
+            goes_on = λ goes. let unchanged = (left_on left goes).0 in (unchanged.mode ∙ inside.0, ap (λ (d : Database). d.schema) unchanged.now_is ∙ inside.1);
+          };
+      crash = λ active. (
+        λ clean goes.
+            let is = active (looks.clean clean) on in
+            let unchanged = (left_on (left_by (within g old) (within g new) result (looks.reads is.schema_is is.is_open clean)) goes).0 in
+            record { is_open = unchanged.is_open; inside = unchanged.mode ∙ is.inside; schema_is = ap (λ (d : Database). d.schema) unchanged.now_is ∙ is.schema_is },
+        looks.crash,
+      );
+    }
+
+    -- and so is what the work means
+    pub looks_keep : Keeps (within g old) old.failed (within g new) new.failed
+    looks_keep m₀ m k₀ k works serves =
+        let before = looks.served serves in
+        let was = works before in
+        let inside = was.goes_on on in
+        let left = left_by (within g old) (within g new) result (looks.reads inside.means.schema before.is_open serves.clean) in
+        record {
+          began = same_tables m₀ k₀ (committed_is (within g old) (within g new) left serves.is_open) was.began;
+          goes_on = λ goes.
+              let unchanged = (left_on left goes).0 in
+              record { inside = unchanged.mode ∙ inside.inside; means = same_tables m k unchanged.now_is inside.means };
+        }
+
+    -- what the tables mean when they are looked at
+    pub looks_now : (m₀ m : Queue) (k₀ k : Ledger) → Works (within g old) old.failed m₀ k₀ m k → MeansNow (within g old) m k
+    looks_now m₀ m k₀ k works serves = ((works serves).goes_on on).means
 
   -- the work, where its store became this one, and the call was refused or not
   abbrev pub after : Work S → Store S → Bool → Work S
@@ -266,34 +365,6 @@ module _ {S : Type 0} (g : Ghosts S) where
       fails = fails;
       refused = λ was. absurd (false≢true (sym on ∙ was));
     }
-
-    -- and so is a reading
-    pub tells_by : {P : Queue → Ledger → A → Type 0} → Finds g old.store.now next result → Answers g old.store.now next result P
-        → Tells g old (after old next failed) result P
-    tells_by {P} finds answers = record {
-      leaves = calls_by (runs_of finds);
-      keeps = rw (on, fails) (keeps_by (shown g old.store.now) (shown g next) finds.served result finds.reads);
-      found = rw on (found_in (shown g old.store.now) (shown g next) finds.served result finds.reads P answers);
-    }
-
-    pub tells_lawful_by : {P : Queue → Ledger → A → Type 0} {Lawful : A → Type 0} → Finds g old.store.now next result → Answers g old.store.now next result P
-        → IfOk result Lawful → TellsLawful g old (after old next failed) result P Lawful
-    tells_lawful_by {P} {Lawful} finds answers lawful =
-        let tells = tells_by {P = P} finds answers in
-        record { leaves = tells.leaves; keeps = tells.keeps; found = tells.found; lawful = lawful }
-
-    -- so is one that speaks of the rows too
-    pub tells_rows_by : {P : Queue → Ledger → A → Type 0} {Q : Database → A → Type 0} → Finds g old.store.now next result → Answers g old.store.now next result P
-        → AnswersRows g old.store.now next result Q → TellsRows g old (after old next failed) result P Q
-    tells_rows_by {P} {Q} finds answers stands =
-        let tells = tells_by {P = P} finds answers in
-        record { leaves = tells.leaves; keeps = tells.keeps; found = tells.found; stands = stands }
-
-    pub tells_rows_lawful_by : {P : Queue → Ledger → A → Type 0} {Q : Database → A → Type 0} {Lawful : A → Type 0} → Finds g old.store.now next result
-        → Answers g old.store.now next result P → AnswersRows g old.store.now next result Q → IfOk result Lawful → TellsRowsLawful g old (after old next failed) result P Q Lawful
-    tells_rows_lawful_by {P} {Q} {Lawful} finds answers stands lawful =
-        let tells = tells_by {P = P} finds answers in
-        record { leaves = tells.leaves; keeps = tells.keeps; found = tells.found; stands = stands; lawful = lawful }
 
     -- and so is what the store makes within it
     module _ {f : Queue → Queue} {h : Ledger → Ledger} where

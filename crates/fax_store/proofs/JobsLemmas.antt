@@ -1,11 +1,11 @@
 -- What the texts on all jobs read, in the one order in which their numbers don't fall, and those on the jobs that wait.
-use Rattle.std.proofs.Common.{◌≡◌, ◌<◌, ◌+◌, ℕ, pos, List, [], map, take, filter, true, nat_lt, get_or, refl, sym, ap, ap₂, subst, ◌∙◌, arith, ◌∷◌, ◌++◌, Bool, not, All, ◌&&◌, ◌||◌, Option, Some, None, unwrap_or, Ordering, Less, Equal, Greater, IsPermutation, IsSorted, IsSortedBy, ◌==◌, nat_le}
+use Rattle.std.proofs.Common.{◌≡◌, ◌<◌, ◌+◌, ℕ, pos, List, [], map, take, filter, true, nat_lt, get_or, refl, sym, ap, ap₂, subst, ◌∙◌, arith, ◌∷◌, ◌++◌, Bool, not, ◌&&◌, ◌||◌, Option, Some, None, unwrap_or, Ordering, Less, Equal, Greater, IsPermutation, IsSorted, IsSortedBy, ◌==◌, nat_le}
 use Rattle.std.specs.Ordering.{is_lt, int_cmp, nat_cmp, on, ordering_then, is_eq, is_gt}
 use Rattle.std.proofs.lemmas.Bool.Decides.{nat_tests}
 use Rattle.std.proofs.lemmas.Cmp.{nat_cmp_total, on_total}
 use Rattle.std.proofs.Math.ListN.{get_or-map}
 use Rattle.sqlite_keyed.proofs.SortLemmas.{sorted_unique}
-use Rattle.std.proofs.lemmas.List.Sorted.{IsPermutation-map, All-permutation}
+use Rattle.std.proofs.lemmas.List.Sorted.{IsPermutation-map}
 use Rattle.sqlite.specs.Effect.{Database}
 use Rattle.sqlite.specs.Order.{Row, column}
 use Rattle.sqlite.specs.Query.{output_cmp, Output, Query}
@@ -26,8 +26,8 @@ use Rattle.sqlite_value.proofs.OrderLemmas.{value_cmp-Int}
 use Rattle.fax_core.specs.Job.{Job, fields_of}
 use Rattle.fax_core.specs.Ledger.{Ledger}
 use Rattle.fax_core.specs.Queue.{Queue}
-use Rattle.fax_schema.specs.declared.statements.TheConstants.{SELECT_BRIEFS, SELECT_BRIEFS_FROM, SELECT_WAITING}
-use Rattle.fax_tables.specs.Job.{brief_shown, job_shown, IsLawfulJob}
+use Rattle.fax_schema.specs.declared.statements.TheConstants.{SELECT_BRIEFS, SELECT_BRIEFS_FROM}
+use Rattle.fax_tables.specs.Job.{brief_shown}
 use Rattle.fax_schema.specs.Schema.{our_tables, jobs_tree}
 use Rattle.fax_tables.specs.Tables.{TablesMean}
 use Rattle.fax_tables.proofs.IndexLemmas.{length_map}
@@ -36,8 +36,8 @@ use Rattle.fax_layout.proofs.SelectLemmas.{rows_by, passes, show, put_out, in_or
 use Rattle.fax_schema.proofs.StatementForms.{SelectsBy}
 use Rattle.fax_tables.proofs.TablesLemmas.{row_of}
 use Rattle.fax_job.specs.declared.job.JobFields.{JobFields}
-use Rattle.fax_store.specs.Job.{AreInRows, AreWaiting, BriefsStand, BriefsStandFrom, brief_places, is_from, jobs_from}
-use Rattle.fax_schema.proofs.StatementTexts.{brief_names, brief_project, from_tests, job_names, job_project, jobs_order, select_briefs, select_briefs_from, waiting_tests, waiting_order, select_waiting}
+use Rattle.fax_store.specs.Job.{AreInRows, BriefsStand, BriefsStandFrom, brief_places, is_from, jobs_from}
+use Rattle.fax_schema.proofs.StatementTexts.{brief_names, brief_project, from_tests, jobs_order, select_briefs, select_briefs_from, waiting_tests, waiting_order}
 use Rattle.std.proofs.Math.Bool.{and-true}
 use Rattle.fax_core.specs.Ageing.{is_past}
 use Rattle.fax_core.specs.Best.{better}
@@ -46,7 +46,6 @@ use Rattle.fax_job.specs.declared.job.Phase.{Phase}
 use Rattle.fax_job.specs.declared.job.Phase.TheVariants.{Held, Waiting, Granted, Done, Failed}
 use Rattle.fax_tables.specs.Row.{number, phase_number}
 use Rattle.fax_store.proofs.CountLemmas.{lower}
-use Rattle.fax_layout.proofs.ColumnLemmas.{all_kept}
 use Rattle.fax_layout.proofs.CompareLemmas.{are_equal, at_least, compared, equal_numbers, at_most, or_else}
 
 abbrev pub Below : Job → Job → Type 0
@@ -258,17 +257,3 @@ module _ (t : ℕ) (more : Row) (tests project : List Term) where
           back.1,
           in_order_of (output_cmp query) put better same_order jobs sorted,
         )
-
-module _ (t : ℕ) (old new : State) (m : Queue) (k : Ledger) (means : TablesMean old.now m k) where
-  -- the text on the jobs that wait shows them whole, in the order of the choice
-  pub waiting_found : (rows : List Row) → Shown SELECT_WAITING.now (params t [] [] job_project) old new rows → (jobs : List Job) × (rows ≡ map (λ j. job_shown (fields_of j)) jobs) × AreWaiting t m jobs
-  waiting_found rows h =
-      let read = reads_as SELECT_WAITING.now (params t [] [] job_project) old new our_tables means.schema _ select_waiting.command select_waiting.plain select_waiting.unlisted rows h in
-      let shown = in_order jobs_tree waiting_tests job_project (params t [] [] job_project) old.now (old.now.trees jobs_tree) refl waiting_order job_names rows read in
-      let it = are_near t [] [] job_project old.now m k means (λ j. true) (λ j. refl) shown.0 shown.1 shown.3 in
-      let same = filter_same (λ j. is_due j t && true) (λ j. is_due j t) m.jobs (all_of (λ (j : Job). (is_due j t && true) ≡ is_due j t) (λ j. and-true (is_due j t)) m.jobs) in
-      (it.0, shown.2 ∙ it.1, record { due = subst (λ js. IsPermutation js it.0) same it.2; ordered = it.3 })
-
--- jobs that wait are lawful as all are
-pub all_waiting : (t : ℕ) (m : Queue) (jobs : List Job) → AreWaiting t m jobs → All IsLawfulJob m.jobs → All IsLawfulJob jobs
-all_waiting t m jobs waiting all = All-permutation IsLawfulJob (filter (λ j. is_due j t) m.jobs) jobs waiting.due (all_kept IsLawfulJob (λ j. is_due j t) m.jobs all)

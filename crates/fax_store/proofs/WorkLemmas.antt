@@ -13,7 +13,7 @@ use Rattle.fax_core.specs.Ledger.{Ledger}
 use Rattle.fax_core.specs.Queue.{Queue}
 use Rattle.fax_tables.specs.Tables.{TablesMean}
 use Rattle.fax_store.specs.Store.{Serves, MeansNow, HasTables, IsEditText, Stays, IsRefusedFor, LeavesCommit, Reads, HasRun}
-use Rattle.fax_store.specs.Work.{IsOver, Holds, IsUnderWay, Works, Changes, ChangesWhere, Keeps, AnswersIn, IsOnlyUnavailable, Steps, Moves}
+use Rattle.fax_store.specs.Work.{IsOver, Holds, IsUnderWay, Works, Changes, ChangesWhere, Keeps, IsOnlyUnavailable, Steps, Moves}
 use Rattle.fax_schema.specs.Schema.{our_tables}
 use Rattle.fax_store.proofs.StatementLemmas.{edit_shows}
 use Rattle.fax_store.proofs.StoreLemmas.{same_tables, rows_left}
@@ -25,7 +25,7 @@ there_as f None y e = absurd cc
 there_as f (Some x) y e = (x, refl, same_Some y (f x) e)
 
 -- what a refusal leaves was committed
-committed_is : (old new : State) → LeavesCommit old new → IsTrue new.is_open → new.committed ≡ old.committed
+pub committed_is : (old new : State) → LeavesCommit old new → IsTrue new.is_open → new.committed ≡ old.committed
 committed_is old new (inl same) is_open = same.0.committed_is
 committed_is old new (inr undone) is_open = (undone.undone is_open).1
 
@@ -82,7 +82,7 @@ pub inside_by : (old new : State) → Holds old false new false → Serves new �
 inside_by old new holds s inside tables = (holds old.committed (λ _. record { began = refl; goes_on = λ _. (inside, tables) }) s).goes_on refl
 
 -- an answer after which all is as it was, whatever it is
-pub reads_same : {A : Type 0} (old new : State) (result : Result A StoreFault) → IsUnchanged old new → Reads old new result
+pub reads_same : {A E : Type 0} (old new : State) (result : Result A E) → IsUnchanged old new → Reads old new result
 reads_same old new (Ok a) same = same
 reads_same old new (Err e) same = inl same
 
@@ -98,7 +98,7 @@ left_then a b c same (inr undone) = inr (record {
 })
 
 -- so one reading leaves the same after another
-pub reads_then : (a b c : State) {A : Type 0} (result : Result A StoreFault) → IsUnchanged a b → Reads b c result → Reads a c result
+pub reads_then : (a b c : State) {A E : Type 0} (result : Result A E) → IsUnchanged a b → Reads b c result → Reads a c result
 reads_then a b c (Ok x) same next = unchanged_then a b c same next
 reads_then a b c (Err e) same next = left_then a b c same next
 
@@ -108,7 +108,7 @@ reads_refused old new (Ok a) P is left = absurd is
 reads_refused old new (Err e) P is left = left
 
 -- what such an answer or refusal leaves is what a refused statement does
-pub left_by : {A : Type 0} (old new : State) (result : Result A StoreFault) → Reads old new result → LeavesCommit old new
+pub left_by : {A E : Type 0} (old new : State) (result : Result A E) → Reads old new result → LeavesCommit old new
 left_by old new (Ok a) same = inl same
 left_by old new (Err e) left = left
 
@@ -128,7 +128,7 @@ edit_holds old new sql params served edit count ran db over s =
     record { began = did.1.committed_is ∙ ap (λ b. if b then old.committed else new.now) on.0 ∙ was.began; goes_on = λ _. (did.1.mode ∙ on.0, did.0 ∙ on.1) }
 
 -- what a call that only reads tells, and leaves
-module _ (old new : State) (served : Serves new → Serves old) {A : Type 0} (result : Result A StoreFault) (read : HasTables old → HasCleanDisk new → Reads old new result) where
+module _ (old new : State) (served : Serves new → Serves old) {A E : Type 0} (result : Result A E) (read : HasTables old → HasCleanDisk new → Reads old new result) where
   -- the rows of the store stay
   pub stays_by : Stays old new
   stays_by db ours has s =
@@ -142,7 +142,7 @@ module _ (old new : State) (served : Serves new → Serves old) {A : Type 0} (re
       was : IsOver old false db
       was = over (served s)
 
-      kept : (r : Result A StoreFault) → Reads old new r → IsOver new (is_err r) db
+      kept : (r : Result A E) → Reads old new r → IsOver new (is_err r) db
       kept (Ok a) same =
           let on = was.goes_on refl in
           record { began = same.0.committed_is ∙ was.began; goes_on = λ _. (same.0.mode ∙ on.0, ap (λ (d : Database). d.schema) same.0.now_is ∙ on.1) }
@@ -155,7 +155,7 @@ module _ (old new : State) (served : Serves new → Serves old) {A : Type 0} (re
       was : IsUnderWay old false m₀ k₀ m k
       was = works (served s)
 
-      kept : (r : Result A StoreFault) → Reads old new r → IsUnderWay new (is_err r) m₀ k₀ m k
+      kept : (r : Result A E) → Reads old new r → IsUnderWay new (is_err r) m₀ k₀ m k
       kept (Ok a) h =
           let same = h.0 in
           let inside = was.goes_on refl in record {
@@ -164,22 +164,20 @@ module _ (old new : State) (served : Serves new → Serves old) {A : Type 0} (re
           }
       kept (Err e) left = record { began = same_tables m₀ k₀ (committed_is old new left s.is_open) was.began; goes_on = λ on. absurd cc }
 
-  module _ (P : Queue → Ledger → A → Type 0) (answers : (m : Queue) (k : Ledger) → MeansNow old m k → Serves new → OrUnavailable result (P m k)) where
-    -- what the tables mean inside a work
-    works_now : (m₀ m : Queue) (k₀ k : Ledger) → Works old false m₀ k₀ m k → MeansNow old m k
-    works_now m₀ m k₀ k works was = ((works was).goes_on refl).means
+-- what a reading of the store answers inside a work
+module _ (old new : State) (served : Serves new → Serves old) {A : Type 0} (result : Result A StoreFault) (read : HasTables old → HasCleanDisk new → Reads old new result)
+    (P : Queue → Ledger → A → Type 0) (answers : (m : Queue) (k : Ledger) → MeansNow old m k → Serves new → OrUnavailable result (P m k)) where
+  -- what the tables mean inside a work
+  works_now : (m₀ m : Queue) (k₀ k : Ledger) → Works old false m₀ k₀ m k → MeansNow old m k
+  works_now m₀ m k₀ k works was = ((works was).goes_on refl).means
 
-    -- inside a work, what it answers is so of all that the work means
-    pub found_in : AnswersIn old false new result P
-    found_in m₀ m k₀ k works s = answers m k (works_now m₀ m k₀ k works) s
-
-    -- the same, in the words of a step
-    pub goes_on : (m₀ m : Queue) (k₀ k : Ledger) → Works old false m₀ k₀ m k → Serves new → MatchResult result (λ a. P m k a × IsUnderWay new false m₀ k₀ m k) (λ fault. (fault ≡ Unavailable) × TablesMean new.committed m₀ k₀)
-    goes_on m₀ m k₀ k works s = stepped result (answers m k (works_now m₀ m k₀ k works) s) (keeps_by m₀ m k₀ k works s)
-      where
-        stepped : (r : Result A StoreFault) → OrUnavailable r (P m k) → IsUnderWay new (is_err r) m₀ k₀ m k → MatchResult r (λ a. P m k a × IsUnderWay new false m₀ k₀ m k) (λ fault. (fault ≡ Unavailable) × TablesMean new.committed m₀ k₀)
-        stepped (Ok a) h after = (h, after)
-        stepped (Err e) h after = (h, after.began)
+  -- the same, in the words of a step
+  pub goes_on : (m₀ m : Queue) (k₀ k : Ledger) → Works old false m₀ k₀ m k → Serves new → MatchResult result (λ a. P m k a × IsUnderWay new false m₀ k₀ m k) (λ fault. (fault ≡ Unavailable) × TablesMean new.committed m₀ k₀)
+  goes_on m₀ m k₀ k works s = stepped result (answers m k (works_now m₀ m k₀ k works) s) (keeps_by old new served result read m₀ m k₀ k works s)
+    where
+      stepped : (r : Result A StoreFault) → OrUnavailable r (P m k) → IsUnderWay new (is_err r) m₀ k₀ m k → MatchResult r (λ a. P m k a × IsUnderWay new false m₀ k₀ m k) (λ fault. (fault ≡ Unavailable) × TablesMean new.committed m₀ k₀)
+      stepped (Ok a) h after = (h, after)
+      stepped (Err e) h after = (h, after.began)
 
 -- calls of a work, one after the other
 pub holds_then : (a b c : State) (failed : Bool) → (Serves c → Serves b) → Holds a false b false → Holds b false c failed → Holds a false c failed

@@ -9,7 +9,7 @@ use Rattle.fax_core.specs.Ledger.{Ledger}
 use Rattle.fax_core.specs.Queue.{Queue}
 use Rattle.fax_schema.specs.Schema.{our_tables}
 use Rattle.fax_store.specs.Store.{CommitsNothing, GoesBack, HasRun, HasTables, IsRefusedFor, LeavesAlone, LeavesCommit, MeansNow, Reads, Serves, Stays}
-use Rattle.fax_store.specs.Work.{AnswersIn, Begins, BeginsAt, Changes, ChangesWhere, Commits, Forgets, Holds, IsOnlyUnavailable, Keeps, MayCommit, Moves, Opens, Steps, Undoes, Withholds, Works}
+use Rattle.fax_store.specs.Work.{Begins, BeginsAt, Changes, ChangesWhere, Commits, Forgets, Holds, IsOnlyUnavailable, MayCommit, Moves, Opens, Steps, Undoes, Withholds, Works}
 use Rattle.fax_store.specs.declared.store.Store.{Store}
 use Rattle.fax_store.specs.declared.work.Work.{Work}
 use Rattle.fax_tables.specs.Fault.{OrUnavailable}
@@ -27,13 +27,21 @@ module _ {S : Type 0} (g : Ghosts S) where
   -- ---- calls of a store
 
   -- The call changes nothing: the rows stay, and nothing is committed. A store that serves did before, and a disk that is clean was.
-  pub record Looks (old new : Store S) : Type 0 where
+  pub record ChangesNothing (old new : Store S) : Type 0 where
     pub served : Serves (shown new) → Serves (shown old)
     pub clean : HasCleanDisk (shown new) → HasCleanDisk (shown old)
     pub stays : Stays (shown old) (shown new)
     pub crash : CommitsNothing (shown old) (shown new)
 
-  -- So does a reading, also within a work: an answer leaves all as it is, and the store serving; a refusal leaves what was committed.
+  -- The same, also within a work: an answer leaves all as it is, and a refusal what was committed.
+  pub record Looks {A E : Type 0} (old new : Store S) (result : Result A E) : Type 0 where
+    pub served : Serves (shown new) → Serves (shown old)
+    pub clean : HasCleanDisk (shown new) → HasCleanDisk (shown old)
+    pub reads : HasTables (shown old) → IsTrue (shown old).is_open → HasCleanDisk (shown new) → Reads (shown old) (shown new) result
+    pub stays : Stays (shown old) (shown new)
+    pub crash : CommitsNothing (shown old) (shown new)
+
+  -- So does a reading, and an answer leaves the store serving.
   pub record Finds {A : Type 0} (old new : Store S) (result : Result A StoreFault) : Type 0 where
     pub served : Serves (shown new) → Serves (shown old)
     pub clean : HasCleanDisk (shown new) → HasCleanDisk (shown old)
@@ -197,34 +205,6 @@ module _ {S : Type 0} (g : Ghosts S) where
     pub crash : Withholds (within old) old.failed (within new) new.failed
     pub fails : new.failed ≡ is_err result
     pub refused : IsTrue old.failed → result ≡ Err Unavailable
-
-  -- The call leaves what the work means, and of that the answer is one of which this holds.
-  pub record Tells {A : Type 0} (old new : Work S) (result : Result A StoreFault) (P : Queue → Ledger → A → Type 0) : Type 0 where
-    pub leaves : Calls old new result
-    pub keeps : Keeps (within old) old.failed (within new) new.failed
-    pub found : AnswersIn (within old) old.failed (within new) result P
-
-  -- The same, and the answer by itself is lawful.
-  pub record TellsLawful {A : Type 0} (old new : Work S) (result : Result A StoreFault) (P : Queue → Ledger → A → Type 0) (Lawful : A → Type 0) : Type 0 where
-    pub leaves : Calls old new result
-    pub keeps : Keeps (within old) old.failed (within new) new.failed
-    pub found : AnswersIn (within old) old.failed (within new) result P
-    pub lawful : IfOk result Lawful
-
-  -- Of a work's answer P holds of what the work means; and whatever the rows say, Q holds of them and the answer.
-  pub record TellsRows {A : Type 0} (old new : Work S) (result : Result A StoreFault) (P : Queue → Ledger → A → Type 0) (Q : Database → A → Type 0) : Type 0 where
-    pub leaves : Calls old new result
-    pub keeps : Keeps (within old) old.failed (within new) new.failed
-    pub found : AnswersIn (within old) old.failed (within new) result P
-    pub stands : AnswersRows old.store.now new.store.now result Q
-
-  -- The same, and the answer by itself is valid.
-  pub record TellsRowsLawful {A : Type 0} (old new : Work S) (result : Result A StoreFault) (P : Queue → Ledger → A → Type 0) (Q : Database → A → Type 0) (Lawful : A → Type 0) : Type 0 where
-    pub leaves : Calls old new result
-    pub keeps : Keeps (within old) old.failed (within new) new.failed
-    pub found : AnswersIn (within old) old.failed (within new) result P
-    pub stands : AnswersRows old.store.now new.store.now result Q
-    pub lawful : IfOk result Lawful
 
   -- what the work means becomes this
   abbrev pub Becomes : Work S → Work S → (Queue → Queue) → (Ledger → Ledger) → Type 0

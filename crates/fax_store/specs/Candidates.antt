@@ -12,11 +12,9 @@ use Rattle.sqlite_trees.specs.declared.store.Store.{Ghosts}
 use Rattle.fax_core.specs.Job.{Job, fields_of}
 use Rattle.fax_core.specs.Ledger.{Ledger}
 use Rattle.fax_core.specs.Queue.{Queue}
-use Rattle.fax_core.specs.State.{calls_to}
-use Rattle.fax_job.specs.declared.job.JobFields.{JobFields}
 use Rattle.fax_store.specs.Calls.{Looks, shown}
 use Rattle.fax_store.specs.Job.{AreWaiting}
-use Rattle.fax_store.specs.Store.{Means, Serves, StaysOpen}
+use Rattle.fax_store.specs.Store.{MeansNow, Serves, StaysOpen}
 use Rattle.fax_store.specs.declared.candidates.Asked.{Asked}
 use Rattle.fax_store.specs.declared.candidates.Candidates.{Candidates}
 use Rattle.fax_store.specs.declared.candidates.Front.{Front}
@@ -111,10 +109,6 @@ Gives Of asked m given page front most found =
 abbrev pub IsProspect : Job → Prospect → Type 0
 IsProspect j found = found ≡ prospect (fields_of j)
 
--- whole, with the calls that are open to its number
-abbrev pub IsCounted : Queue → Job → JobFields × ℕ → Type 0
-IsCounted m j found = (found.0 ≡ fields_of j) × (found.1 ≡ calls_to j.dial m)
-
 -- ---- calls of a reading
 
 module _ {S Z : Type 0} (g : Ghosts S) where
@@ -123,36 +117,27 @@ module _ {S Z : Type 0} (g : Ghosts S) where
     pub same_reference : new.store.ghost_name ≡ name
     pub same : new.store.now ≡ old
     pub asked : (new.asked.t ≡ what.t) × (new.asked.but ≡ what.but)
-    pub stands : (m : Queue) (k : Ledger) → Means (shown g old) m k → Serves (shown g old)
+    pub stands : (m : Queue) (k : Ledger) → MeansNow (shown g old) m k → Serves (shown g old)
         → StandsAt new.asked m [] (into_iter_items new.page) new.front new.most
 
-  -- The reading goes on, and changes nothing. Of those given before, and what is answered, this holds then.
-  pub record Advances {A : Type 0} (old new : Candidates S (IntoIter Row Z) Asked) (result : Result A StoreFault) (Finds : Queue → List Job → A → Type 0) : Type 0 where
-    pub same_reference : new.store.ghost_name ≡ old.store.ghost_name
-    pub leaves : Looks g old.store.now new.store.now
-    pub opens : OnOk result (HasCleanDisk (shown g new.store.now) → Serves (shown g new.store.now))
-    pub asked : new.asked ≡ old.asked
-    pub found : (m : Queue) (k : Ledger) (given : List Job) → Means (shown g old.store.now) m k → Serves (shown g new.store.now)
-        → StandsAt old.asked m given (into_iter_items old.page) old.front old.most → OrUnavailable result (Finds m given)
-
-  -- The same, where the store may not be asked anything: at the end it is.
+  -- The reading goes on, and changes nothing. Of those given before, and what is answered, this holds then. The store may not be asked anything, but at the end it is.
   pub record Reaches {A : Type 0} (old new : Candidates S (IntoIter Row Z) Asked) (result : Result A StoreFault) (IsEnd : A → Type 0) (Finds : Queue → List Job → A → Type 0) : Type 0 where
     pub same_reference : new.store.ghost_name ≡ old.store.ghost_name
-    pub leaves : Looks g old.store.now new.store.now
+    pub leaves : Looks g old.store.now new.store.now result
     pub opens : OnOk result (StaysOpen (shown g old.store.now) (shown g new.store.now))
     pub none : IfOk result (λ a. IsEnd a → HasCleanDisk (shown g new.store.now) → Serves (shown g new.store.now))
     pub asked : new.asked ≡ old.asked
-    pub found : (m : Queue) (k : Ledger) (given : List Job) → Means (shown g old.store.now) m k → Serves (shown g new.store.now)
+    pub found : (m : Queue) (k : Ledger) (given : List Job) → MeansNow (shown g old.store.now) m k → Serves (shown g new.store.now)
         → StandsAt old.asked m given (into_iter_items old.page) old.front old.most → OrUnavailable result (Finds m given)
 
   -- The next page is read, where all of the last one is given, and it is told whether one statement finds all behind the front.
   pub record ReadsOn (old new : Candidates S (IntoIter Row Z) Asked) (result : Result Bool StoreFault) : Type 0 where
     pub same_reference : new.store.ghost_name ≡ old.store.ghost_name
-    pub leaves : Looks g old.store.now new.store.now
+    pub leaves : Looks g old.store.now new.store.now result
     pub opens : OnOk result (HasCleanDisk (shown g new.store.now) → Serves (shown g new.store.now))
     pub asked : new.asked ≡ old.asked
     pub told : IfOk result (λ last. last ≡ is_last old.front)
     pub next : OnOk result (into_iter_items new.page ≡ [] → new.front ≡ next_front old.front)
-    pub found : (m : Queue) (k : Ledger) (given : List Job) → Means (shown g old.store.now) m k → Serves (shown g new.store.now)
+    pub found : (m : Queue) (k : Ledger) (given : List Job) → MeansNow (shown g old.store.now) m k → Serves (shown g new.store.now)
         → StandsAt old.asked m given [] old.front old.most → OrUnavailable result (λ last. StandsAt old.asked m given (into_iter_items new.page) new.front new.most
         × (into_iter_items new.page ≡ [] → last ≡ true → AreAsked old.asked m given))

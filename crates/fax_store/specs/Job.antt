@@ -6,7 +6,7 @@ use Rattle.std.specs.List.Sorted.{IsPermutation, IsSortedBy}
 use Rattle.sqlite.specs.Effect.{Database}
 use Rattle.sqlite.specs.Order.{Row, column}
 use Rattle.sqlite_value.specs.Order.{value_cmp}
-use Rattle.fax_core.specs.Job.{Job, fields_of}
+use Rattle.fax_core.specs.Job.{Job}
 use Rattle.fax_core.specs.Ageing.{aged_job}
 use Rattle.fax_core.specs.Best.{better}
 use Rattle.fax_core.specs.State.{is_due}
@@ -83,10 +83,6 @@ with_expired_in phase t m = with_failed_in phase t (with_ends t (λ n. is_expire
 pub record AreWaiting (t : ℕ) (m : Queue) (jobs : List Job) : Type 0 where
   pub due : IsPermutation (filter (λ j. is_due j t) m.jobs) jobs
   pub ordered : IsSortedBy better jobs
-
--- the records of these
-abbrev pub IsWaiting : ℕ → Queue → List JobFields → Type 0
-IsWaiting t m found = (jobs : List Job) × (found ≡ map fields_of jobs) × AreWaiting t m jobs
 
 -- the jobs from this number on
 abbrev pub jobs_from : ℕ → Queue → List Job

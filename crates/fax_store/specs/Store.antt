@@ -94,7 +94,7 @@ abbrev pub LeavesCommit : State → State → Type 0
 LeavesCommit old new = IsUnchanged old new ⊎ IsRolledBack old new
 
 -- an answer leaves all as it is, and a refusal what was committed
-abbrev pub Reads : {A : Type 0} → State → State → Result A StoreFault → Type 0
+abbrev pub Reads : {A E : Type 0} → State → State → Result A E → Type 0
 Reads old new result = MatchResult result (λ _. IsUnchanged old new) (λ _. LeavesCommit old new)
 
 -- the database has our tables

@@ -4,7 +4,6 @@ use Rattle.sqlite.specs.Effect.{Database}
 use Rattle.sqlite.specs.State.{State, HasCleanDisk}
 use Rattle.fax_tables.specs.declared.fault.StoreFault.{StoreFault}
 use Rattle.fax_tables.specs.declared.fault.StoreFault.TheVariants.{Unavailable}
-use Rattle.fax_tables.specs.Fault.{OrUnavailable}
 use Rattle.fax_core.specs.Ledger.{Ledger}
 use Rattle.fax_core.specs.Queue.{Queue}
 use Rattle.fax_schema.specs.Schema.{our_tables}
@@ -93,10 +92,6 @@ ChangesWhere P old failed new failed_after f g = (m₀ m : Queue) (k₀ k : Ledg
 -- a call leaves what the work means
 abbrev pub Keeps : State → Bool → State → Bool → Type 0
 Keeps old failed new failed_after = Changes old failed new failed_after (λ m. m) (λ k. k)
-
--- a call of a work answers a value of which this holds, unless it was unavailable
-abbrev pub AnswersIn : {A : Type 0} → State → Bool → State → Result A StoreFault → (Queue → Ledger → A → Type 0) → Type 0
-AnswersIn old failed new result P = (m₀ m : Queue) (k₀ k : Ledger) → Works old failed m₀ k₀ m k → Serves new → OrUnavailable result (P m k)
 
 -- A step of a work makes this of it. Where it was refused, the last commit stands.
 abbrev pub Steps : {A : Type 0} → State → Result A StoreFault → Queue → Ledger → Queue → Ledger → Type 0

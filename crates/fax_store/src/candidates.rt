@@ -7,13 +7,13 @@ ghost use Rattle.fax_core.specs.Ledger.{Ledger};
 ghost use Rattle.fax_core.specs.Queue.{Queue};
 ghost use Rattle.fax_core.specs.State.{calls_to};
 ghost use Rattle.fax_store.specs.Calls.{AnswersRows, Looks, Recalls, shown};
-ghost use Rattle.fax_store.specs.Candidates.{Advances, AreAsked, Gives, IsCounted, IsPage, IsProspect, Reaches, ReadsOn, StandsAt, Starts};
+ghost use Rattle.fax_store.specs.Candidates.{AreAsked, Gives, IsPage, IsProspect, Reaches, ReadsOn, StandsAt, Starts};
 ghost use Rattle.fax_store.specs.Grant.{CallsStand};
-ghost use Rattle.fax_store.specs.Store.{Means, Serves};
+ghost use Rattle.fax_store.specs.Store.{MeansNow, Serves};
 ghost use Rattle.fax_tables.specs.Fault.{OrUnavailable};
 
 use crate::store::Store;
-use fax_job::{Dial, Job, Moment};
+use fax_job::{Dial, Moment};
 use fax_schema::statements::{
     SELECT_BEHIND_NUMBER, SELECT_BEHIND_PRIORITY, SELECT_BEHIND_TIME, SELECT_FIRST,
 };
@@ -163,26 +163,6 @@ impl<S: Alter> Store<S> {
 }
 
 impl<S: Alter> Candidates<'_, S> {
-    /// The next job, with the number of grants that are open of jobs to its canonical number; or none
-    /// behind the last. After an error it isn't to be asked again.
-    ///
-    /// # Errors
-    ///
-    /// `Unavailable`, or `Strange` where the row of a job is no lawful record.
-    pub fn next(&mut self) -> Result<Option<(Job, u64)>, StoreFault>
-        ensures { Advances S.Store self.old self.new result (λ m given. Gives (IsCounted m) self.old.asked m given
-            (into_iter_items self.new.page) self.new.front self.new.most) }
-    {
-        let Some(prospect) = self.prospect()? else {
-            return Ok(None);
-        };
-        let Some(job) = self.store.job(prospect.job)? else {
-            return Err(StoreFault::Strange);
-        };
-        let calls = self.store.active_to(&prospect.dial)?;
-        Ok(Some((job, calls)))
-    }
-
     /// The next job as the choice looks at it, or none behind the last. After an error it isn't to be asked again.
     ///
     /// # Errors
@@ -207,12 +187,12 @@ impl<S: Alter> Candidates<'_, S> {
     /// As those of [`Store::active_to`].
     pub fn active_to(&mut self, dial: &Dial) -> Result<u64, StoreFault>
         ensures same_reference { self.new.store.ghost_name ≡ self.old.store.ghost_name }
-        ensures leaves { Looks S.Store self.old.store.now self.new.store.now }
+        ensures leaves { Looks S.Store self.old.store.now self.new.store.now result }
         ensures opens { OnOk result (HasCleanDisk (shown S.Store self.new.store.now)
             → Serves (shown S.Store self.new.store.now)) }
         ensures same { (self.new.asked ≡ self.old.asked) × (self.new.page ≡ self.old.page)
             × (self.new.front ≡ self.old.front) × (self.new.most ≡ self.old.most) }
-        ensures found { (m : Queue) (k : Ledger) → Means (shown S.Store self.old.store.now) m k
+        ensures found { (m : Queue) (k : Ledger) → MeansNow (shown S.Store self.old.store.now) m k
             → Serves (shown S.Store self.new.store.now) → OrUnavailable result (λ calls. calls ≡ calls_to dial.now m) }
         ensures stands { AnswersRows S.Store self.old.store.now self.new.store.now result (λ db. CallsStand db dial.now) }
     {

@@ -3,7 +3,7 @@
 ghost use Rattle.std.specs.Prelude.{◌≡◌, ◌≤◌, ◌<◌, ◌^◌, ℕ, [], ◌∷◌, false, IfErr, IfOk, IfSome, Some};
 ghost use Rattle.fax_core.specs.Ledger.{floors_with, given_up, with_floor, without_replies};
 ghost use Rattle.fax_value.specs.Name.{IsName};
-ghost use Rattle.fax_store.specs.Calls.{Answers, AnswersRows, Finds, MakesIf, TellsRowsLawful, Writes, WritesIf, WritesWhere};
+ghost use Rattle.fax_store.specs.Calls.{Answers, AnswersRows, Finds, MakesIf, Writes, WritesIf, WritesWhere};
 ghost use Rattle.fax_store.specs.Floors.{FloorStands, IsHundredth, TakesFew, TakesHundred, Thins};
 ghost use Rattle.fax_tables.specs.Fault.{OrUnavailable};
 ghost use Rattle.fax_tables.specs.Row.{number};
@@ -148,23 +148,6 @@ impl<S: Alter> Store<S> {
 }
 
 impl<S: Alter> Work<'_, S> {
-    /// Through which number the client has given up its replies: 0, where it has given up none.
-    ///
-    /// # Errors
-    ///
-    /// `Unavailable`, or `Strange` where its row is no lawful record.
-    pub fn floor(&mut self, client: &str) -> Result<u64, StoreFault>
-        ensures { TellsRowsLawful S.Store self.old self.new result (λ m k floor. floor ≡ k.floor client.now)
-            (λ db. FloorStands db client.now) (λ floor. floor < 10 ^ 18) }
-    {
-        if self.failed {
-            return Err(StoreFault::Unavailable);
-        }
-        let found = self.store.floor(client);
-        self.failed = found.is_err();
-        found
-    }
-
     /// Raises the client's floor to this number, where it isn't as high, and takes its replies through the floor away.
     ///
     /// # Errors

@@ -1,6 +1,6 @@
 //! The grants, and what modems and jobs hold of those that are open.
 
-ghost use Rattle.std.specs.Prelude.{◌≡◌, ◌<◌, ◌≤◌, ◌+◌, ◌-◌, ◌^◌, ⊤, ℕ, List, false, map, Err, IfErr, IfSome, OnErr, OnOk};
+ghost use Rattle.std.specs.Prelude.{◌≡◌, ◌<◌, ◌≤◌, ◌+◌, ◌-◌, ◌^◌, ⊤, ℕ, List, false, map, Err, IfErr, OnErr, OnOk};
 ghost use Rattle.std.specs.List.Sorted.{IsPermutation};
 ghost use Rattle.std.specs.Option.{option_map};
 ghost use Rattle.sqlite.specs.State.{HasCleanDisk, KeepsCommit};
@@ -9,7 +9,7 @@ ghost use Rattle.fax_core.specs.Ledger.{Ledger};
 ghost use Rattle.fax_core.specs.Queue.{Queue, grant_numbered, open_grants};
 ghost use Rattle.fax_core.specs.State.{calls_to};
 ghost use Rattle.fax_value.specs.Limits.{most_pages};
-ghost use Rattle.fax_store.specs.Calls.{Answers, AnswersRows, BecomesWhere, Calls, Finds, LooksUpLawful, MakesIf, RecallsRows, Runs, TellsLawful, TellsRows, WritesIf, WritesIfWhere, WritesWhere, shown};
+ghost use Rattle.fax_store.specs.Calls.{Answers, AnswersRows, BecomesWhere, Calls, Finds, LooksUpLawful, MakesIf, RecallsRows, Runs, WritesIf, WritesIfWhere, WritesWhere, shown};
 ghost use Rattle.fax_store.specs.Grant.{CallsStand, GrantStands, HasCalls, HasGrantRow, HasHoldRow, HoldStands, HoldersStand, IsCalled, IsHeld, IsHeldBy, IsNewGrant, IsReport, SetsCalls, with_count, with_placed, with_one_more_grant, with_closed};
 ghost use Rattle.fax_store.specs.Meta.{IsGrantLeft};
 ghost use Rattle.fax_store.specs.Store.{Serves, HasTables};
@@ -240,57 +240,6 @@ impl<S: Alter> Store<S> {
 }
 
 impl<S: Alter> Work<'_, S> {
-    /// What the modem holds, or none.
-    ///
-    /// # Errors
-    ///
-    /// `Unavailable`, or `Strange` where its row is no lawful record.
-    pub fn hold_of(&mut self, modem: &str) -> Result<Option<Hold>, StoreFault>
-        ensures { TellsLawful S.Store self.old self.new result (λ m k found. found ≡ option_map as_hold
-            (held_by modem.now m)) (λ found. IfSome found IsLawfulHold) }
-    {
-        if self.failed {
-            return Err(StoreFault::Unavailable);
-        }
-        let found = self.store.hold_of(modem);
-        self.failed = found.is_err();
-        found
-    }
-
-    /// The grant of this number.
-    ///
-    /// # Errors
-    ///
-    /// `Unavailable`, or `Strange` where its row is no lawful record.
-    pub fn grant(&mut self, number: u32) -> Result<Option<Grant>, StoreFault>
-        ensures { TellsLawful S.Store self.old self.new result (λ m k found. found ≡ grant_numbered number m)
-            (λ found. IfSome found IsWithinLimits) }
-    {
-        if self.failed {
-            return Err(StoreFault::Unavailable);
-        }
-        let found = self.store.grant(number);
-        self.failed = found.is_err();
-        found
-    }
-
-    /// How many grants are open of jobs to the same canonical number.
-    ///
-    /// # Errors
-    ///
-    /// `Unavailable`, or `Strange` where its row is no lawful record.
-    pub fn active_to(&mut self, dial: &Dial) -> Result<u64, StoreFault>
-        ensures { TellsRows S.Store self.old self.new result (λ m k calls. calls ≡ calls_to dial.now m)
-            (λ db. CallsStand db dial.now) }
-    {
-        if self.failed {
-            return Err(StoreFault::Unavailable);
-        }
-        let found = self.store.active_to(dial);
-        self.failed = found.is_err();
-        found
-    }
-
     /// Adds an open grant of a number that no grant has, to a modem and a job that hold none, and
     /// makes the next number one greater.
     ///

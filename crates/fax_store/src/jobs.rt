@@ -1,11 +1,11 @@
 //! The jobs.
 
-ghost use Rattle.std.specs.Prelude.{◌≡◌, ◌<◌, ℕ, List, [], ◌∷◌, map, None, Err, IfErr, IfNone, IfOk, IfSome, is_err};
+ghost use Rattle.std.specs.Prelude.{◌≡◌, ◌<◌, ℕ, List, [], ◌∷◌, map, None, Err, is_err};
 ghost use Rattle.std.specs.Option.{option_map};
 ghost use Rattle.fax_core.specs.Job.{job_of, fields_of};
 ghost use Rattle.fax_core.specs.Queue.{job_numbered};
-ghost use Rattle.fax_store.specs.Calls.{LooksUp, Makes, MakesIfWhere, MakesWhere, Recalls, RecallsLawful, RecallsOnly, Tells, Writes, WritesIf, WritesIfWhere, WritesWhere};
-ghost use Rattle.fax_store.specs.Job.{BriefStands, BriefsStand, BriefsStandFrom, HasJobRow, JobStands, IsChange, IsNewJob, IsWaiting, jobs_from, with_change, with_placed, with_one_more_job, with_expired, with_expired_in, with_failed_in, with_set};
+ghost use Rattle.fax_store.specs.Calls.{LooksUp, Makes, MakesIfWhere, MakesWhere, RecallsLawful, RecallsOnly, Writes, WritesIf, WritesIfWhere, WritesWhere};
+ghost use Rattle.fax_store.specs.Job.{BriefStands, BriefsStand, BriefsStandFrom, HasJobRow, JobStands, IsChange, IsNewJob, jobs_from, with_change, with_placed, with_one_more_job, with_expired, with_expired_in, with_failed_in, with_set};
 ghost use Rattle.fax_store.specs.Meta.{IsJobLeft, with_clock};
 ghost use Rattle.fax_store.specs.Times.{is_among, is_expired};
 ghost use Rattle.fax_tables.specs.Job.{brief};
@@ -18,11 +18,11 @@ use fax_core::has_ended;
 use fax_job::{Job, Moment, Phase};
 use fax_schema::statements::{
     EXPIRE_JOBS, INSERT_JOB, SELECT_BRIEF, SELECT_BRIEFS, SELECT_BRIEFS_FROM, SELECT_EXPIRED,
-    SELECT_JOB, SELECT_WAITING, UPDATE_JOB,
+    SELECT_JOB, UPDATE_JOB,
 };
 use fax_tables::{
-    Meta, PAST_JOBS, StoreFault, brief_in, briefs_in, job_in, jobs_in, killtime_number,
-    phase_number, spelling, wish_number,
+    Meta, PAST_JOBS, StoreFault, brief_in, briefs_in, job_in, killtime_number, phase_number,
+    spelling, wish_number,
 };
 use sqlite::{Alter, Row, params};
 
@@ -55,19 +55,6 @@ impl<S: Alter> Store<S> {
             Some(row) => Ok(Some(brief_in(self.alloc, &row)?)),
             None => Ok(None),
         }
-    }
-
-    /// The jobs that wait and may be tried at `t`, in the order of the choice: by priority, then
-    /// time to send, then number.
-    ///
-    /// # Errors
-    ///
-    /// `Unavailable`, or `Strange` where the row of one is no lawful record.
-    pub fn waiting(&mut self, t: Moment) -> Result<Vec<Job>, StoreFault>
-        ensures { Recalls S.Store self.old self.new result (λ m k found. IsWaiting t m found.items) }
-    {
-        let rows = self.show(SELECT_WAITING, params![t.seconds()])?;
-        jobs_in(self.alloc, rows.as_slice())
     }
 
     /// The jobs of the queue without their extra lines, which aren't read, in ascending order of their numbers.
@@ -230,40 +217,6 @@ impl<S: Alter> Store<S> {
 }
 
 impl<S: Alter> Work<'_, S> {
-    /// The job of this number.
-    ///
-    /// # Errors
-    ///
-    /// `Unavailable`, or `Strange` where its row is no lawful record.
-    pub fn job(&mut self, job: u32) -> Result<Option<Job>, StoreFault>
-        ensures { Tells S.Store self.old self.new result (λ m k found. found ≡ option_map fields_of
-            (job_numbered job m)) }
-    {
-        if self.failed {
-            return Err(StoreFault::Unavailable);
-        }
-        let found = self.store.job(job);
-        self.failed = found.is_err();
-        found
-    }
-
-    /// The jobs that wait and may be tried at `t`, in the order of the choice: by priority, then
-    /// time to send, then number.
-    ///
-    /// # Errors
-    ///
-    /// `Unavailable`, or `Strange` where the row of one is no lawful record.
-    pub fn waiting(&mut self, t: Moment) -> Result<Vec<Job>, StoreFault>
-        ensures { Tells S.Store self.old self.new result (λ m k found. IsWaiting t m found.items) }
-    {
-        if self.failed {
-            return Err(StoreFault::Unavailable);
-        }
-        let found = self.store.waiting(t);
-        self.failed = found.is_err();
-        found
-    }
-
     /// Adds a job of a number that no job has, which came in at `clock`, makes the next number one greater and sets the
     /// clock. `meta` has the clock and the next numbers before, which aren't read again.
     ///

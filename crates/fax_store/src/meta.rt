@@ -3,7 +3,7 @@
 ghost use Rattle.std.specs.Prelude.{◌≡◌, false};
 ghost use Rattle.fax_core.specs.Ledger.{Ledger};
 ghost use Rattle.fax_core.specs.Queue.{Queue};
-ghost use Rattle.fax_store.specs.Calls.{Makes, RecallsLawful, Runs, TellsLawful, Writes, shown};
+ghost use Rattle.fax_store.specs.Calls.{Makes, RecallsLawful, Runs, Writes, shown};
 ghost use Rattle.fax_store.specs.Meta.{MetaStands, with_clock};
 ghost use Rattle.fax_store.specs.Store.{Serves};
 ghost use Rattle.fax_store.specs.Work.{Works, Steps};
@@ -53,23 +53,6 @@ impl<S: Alter> Store<S> {
 }
 
 impl<S: Alter> Work<'_, S> {
-    /// The clock and the next numbers.
-    ///
-    /// # Errors
-    ///
-    /// `Unavailable`, or `Strange` where their row is no lawful record.
-    pub fn meta(&mut self) -> Result<Meta, StoreFault>
-        ensures { TellsLawful S.Store self.old self.new result (λ m k meta. meta ≡ meta_of m)
-            (λ meta. (m : Queue) → IsLawfulMeta (with_meta meta m)) }
-    {
-        if self.failed {
-            return Err(StoreFault::Unavailable);
-        }
-        let found = self.store.meta();
-        self.failed = found.is_err();
-        found
-    }
-
     /// Sets the clock.
     ///
     /// # Errors

@@ -3,7 +3,7 @@
 ghost use Rattle.std.specs.Prelude.{◌≡◌, true, false, Err, IfErr, is_err, IsTrue};
 ghost use Rattle.fax_core.specs.Machine.{is_down, with_mark};
 ghost use Rattle.fax_value.specs.Name.{IsName};
-ghost use Rattle.fax_store.specs.Calls.{MakesIf, RecallsOnly, Tells, Writes, WritesIf};
+ghost use Rattle.fax_store.specs.Calls.{MakesIf, RecallsOnly, Writes, WritesIf};
 
 use crate::store::Store;
 use crate::work::Work;
@@ -58,22 +58,6 @@ impl<S: Alter> Store<S> {
 }
 
 impl<S: Alter> Work<'_, S> {
-    /// Whether the modem is down.
-    ///
-    /// # Errors
-    ///
-    /// `Unavailable`.
-    pub fn is_down(&mut self, modem: &str) -> Result<bool, StoreFault>
-        ensures { Tells S.Store self.old self.new result (λ m k down. down ≡ is_down modem.now m) }
-    {
-        if self.failed {
-            return Err(StoreFault::Unavailable);
-        }
-        let found = self.store.is_down(modem);
-        self.failed = found.is_err();
-        found
-    }
-
     /// Marks the modem as down, or takes the mark away. Either may stand so already.
     ///
     /// # Errors

@@ -1,9 +1,9 @@
 //! The kept replies.
 
-ghost use Rattle.std.specs.Prelude.{◌≡◌, Err, IfOk, IfSome, is_err, OnOk};
+ghost use Rattle.std.specs.Prelude.{Err, IfSome, is_err, OnOk};
 ghost use Rattle.fax_core.specs.Ledger.{with_reply, entry, IsKeptStatus};
 ghost use Rattle.fax_value.specs.Name.{IsName};
-ghost use Rattle.fax_store.specs.Calls.{MakesIf, RecallsLawful, TellsLawful, WritesIf};
+ghost use Rattle.fax_store.specs.Calls.{MakesIf, RecallsLawful, WritesIf};
 ghost use Rattle.fax_store.specs.Kept.{IsKeptFor, IsUnkept, MissesNone};
 ghost use Rattle.fax_store.specs.Work.{Keeps};
 
@@ -56,23 +56,6 @@ impl<S: Alter> Store<S> {
 }
 
 impl<S: Alter> Work<'_, S> {
-    /// The reply that is kept for this number of this client.
-    ///
-    /// # Errors
-    ///
-    /// `Unavailable`, or `Strange` where its row is no lawful record.
-    pub fn kept(&mut self, client: &str, number: RequestNumber) -> Result<Option<Kept>, StoreFault>
-        ensures { TellsLawful S.Store self.old self.new result (λ m k. IsKeptFor k.replies client.now number)
-            (λ found. IfSome found (λ kept. IsKeptStatus kept.status)) }
-    {
-        if self.failed {
-            return Err(StoreFault::Unavailable);
-        }
-        let found = self.store.kept(client, number);
-        self.failed = found.is_err();
-        found
-    }
-
     /// Keeps a reply for this number of this client, which has none yet, with what was said.
     ///
     /// # Errors

@@ -2,7 +2,7 @@
 
 ghost use Rattle.std.specs.Prelude.{◌≡◌, not, IfErr, IfOk};
 ghost use Rattle.sqlite.specs.State.{HasCleanDisk};
-ghost use Rattle.fax_store.specs.Calls.{Looks, shown};
+ghost use Rattle.fax_store.specs.Calls.{ChangesNothing, shown};
 ghost use Rattle.fax_store.specs.Shut.{SaysShut, shut_by as says_shut};
 
 use crate::store::{COMMIT, Store};
@@ -28,7 +28,7 @@ impl<S: Alter> Store<S> {
     ///
     /// `Unavailable`, where it can't be told.
     pub fn is_shut(&mut self) -> Result<bool, StoreFault>
-        ensures leaves { Looks S.Store self.old self.new }
+        ensures leaves { ChangesNothing S.Store self.old self.new }
         ensures told { HasCleanDisk (shown S.Store self.new)
             → IfOk result (λ shut. (shown S.Store self.new).is_open ≡ not shut) }
         ensures says { HasCleanDisk (shown S.Store self.new)

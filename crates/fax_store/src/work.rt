@@ -1,7 +1,7 @@
 //! Changes that are made together.
 
-ghost use Rattle.std.specs.Prelude.{◌≡◌, false};
-ghost use Rattle.fax_store.specs.Calls.{Drops, Ends};
+ghost use Rattle.std.specs.Prelude.{◌≡◌, ◌||◌, false, not};
+ghost use Rattle.fax_store.specs.Calls.{Drops, Ends, within};
 
 use crate::store::{COMMIT, Store};
 use fax_tables::StoreFault;
@@ -11,7 +11,8 @@ use sqlite::Alter;
 /// before, they are undone. Once a call of it was refused, each later one is refused as
 /// `Unavailable`, its commit too.
 pub struct Work<'s, S: Alter> {
-    pub(crate) store: &'s mut Store<S>,
+    /// Its readers read what the work has made of the tables. After one that was refused, [`Work::check`] has to be called.
+    pub store: &'s mut Store<S>,
     pub(crate) failed: bool,
 }
 
@@ -25,6 +26,15 @@ impl<'s, S: Alter> Work<'s, S> {
             store,
             failed: false,
         }
+    }
+
+    /// Takes note of whether a refused reading of its store has undone the work. Then each later call is refused.
+    pub fn check(&mut self)
+        ensures same_reference { self.new.store.ghost_name ≡ self.old.store.ghost_name }
+        ensures same { self.new.store.now ≡ self.old.store.now }
+        ensures fails { self.new.failed ≡ (self.old.failed || not (within S.Store self.old).in_transaction) }
+    {
+        self.failed = self.failed || self.store.conn.is_autocommit();
     }
 
     /// Makes the changes those of the store.

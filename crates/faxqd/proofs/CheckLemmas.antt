@@ -33,7 +33,11 @@ use Rattle.fax_tables.specs.Tables.{RowsMean, TablesMean, meta_as, version_of}
 use Rattle.fax_tables.specs.declared.fault.StoreFault.{StoreFault}
 use Rattle.fax_text.specs.declared.status.Status.{Status}
 use Rattle.fax_text.specs.declared.status.Status.TheVariants.{Success, Fault, Usage, Unused, Later}
-use Rattle.faxqd.proofs.RestartsLemmas.{keeps_queue}
+use Rattle.std.proofs.Math.Logic.{∥∥₁_map}
+use Rattle.fax_check.specs.Consistent.{Consistent}
+use Rattle.fax_desk.specs.Replaying.{empty_start}
+use Rattle.fax_run.specs.Run.{Start}
+use Rattle.faxqd.proofs.RestartsLemmas.{keeps_queue, leaves_queue}
 use Rattle.faxqd.specs.Check.{Checks, ChecksBy, HasNoDatabase, IsTrueOf, IsVerdictOn, MeanSound, Prints, StandByRowid, sound_line}
 
 -- ---- rows that were taken
@@ -112,6 +116,16 @@ verdict_on image opened new (Ok verdict) was it clean =
       ];
     }
 
+-- where no flaw is told, what was opened means a consistent queue
+consistent_by : (image : Image) (opened new : State) (verdict : Result (Option Flaw) StoreFault) → (was : IsFound image opened) → Tells opened new verdict IsChecked → HasCleanDisk new
+    → verdict ≡ Ok None → StandByRowid was.found opened.now → (start : Start) × Consistent start.queue × Means opened start.queue start.kept
+consistent_by image opened new verdict was it clean is by = elim was.taken [
+  | inl (none, rest) ↦ (empty_start, empty_consistent, λ _. rest)
+  | inr (ours, has) ↦
+      (let mean = is_true was.found opened new None ours has was.serves was.means (subst (λ (v : Result (Option Flaw) StoreFault). Tells opened new v IsChecked) is it) clean by in
+      (record { queue = mean.0; kept = mean.1 }, mean.3, was.means mean.0 mean.1 ours.schema_is mean.2))
+]
+
 -- ---- the end
 
 module _ {W : Type 0} (contents : W → Option (List ℕ)) (out out₂ : Watched W) (image : Image) where
@@ -131,6 +145,11 @@ module _ {W : Type 0} (contents : W → Option (List ℕ)) (out out₂ : Watched
             (opened, was, verdict_on image (file_state opened) (file_state conn) verdict was it (before clean));
         leaves = λ clean. keeps_queue image conn store (file_state opened) (numbered clean) (databases clean) quiet.outcomes (before clean)
             (found (it.clean (before clean))) (λ m k sound means. it.crash);
+        premise = λ clean is by left may.
+            let was = found (it.clean (before clean)) in
+            let mean = consistent_by image (file_state opened) (file_state conn) verdict was it (before clean) is by in
+            ∥∥₁_map (leaves_queue conn store (file_state opened) mean.0 (numbered clean) (databases clean) quiet.outcomes (before clean) was.serves.is_open was.alone mean.2 it.crash left may)
+            (λ have. (mean.0, mean.1, inl have));
       }
 
   -- a check succeeds where it prints that there is no flaw

@@ -20,13 +20,13 @@ use Rattle.fax_run.specs.Run.{Start}
 use Rattle.fax_run.specs.Sessions.{Follow, session_of}
 use Rattle.fax_schema.specs.Schema.{AreOurs}
 use Rattle.fax_store.proofs.AdoptLemmas.{means_rows}
-use Rattle.fax_store.specs.Store.{CommitsNothing, Means}
+use Rattle.fax_store.specs.Store.{CommitsNothing, LeavesAlone, Means}
 use Rattle.fax_schema.proofs.OursLemmas.{not_ours}
 use Rattle.fax_files.specs.Database.{AreHeld, IsFound}
 use Rattle.fax_once.proofs.HandledLemmas.{open_stops}
 use Rattle.fax_layout.proofs.DatabaseLemmas.{same_database}
 use Rattle.fax_tables.specs.Tables.{RowsMean}
-use Rattle.faxqd.specs.Restarts.{HaveOneHistory, HoldStart, KeepsQueue, LeadsFrom, Link, Links, Looked, Ran, RestartsHaveOneHistory, Served}
+use Rattle.faxqd.specs.Restarts.{HaveOneHistory, HaveTables, HoldStart, KeepsQueue, LeadsFrom, Link, Links, Looked, Ran, RestartsHaveOneHistory, Served}
 use Rattle.faxqd.specs.Serve.{IsFoundAs, ServesHeld}
 
 -- ---- what was found
@@ -64,18 +64,25 @@ module _ {C : Type 0} (gives : C → List ℕ → ℕ → C → Type 0) (run : S
         (by.2.0, by.2.1, record { db = rows.0; holds = subst (HoldsDatabase left) (sym rows.1) it.2; sound = rows.2.sound; ours = means.0; means = means.1 }),
       ))
 
--- what a crash leaves after nothing was committed means what the files held
+-- what a crash leaves after nothing was committed means what the opened store meant
+pub leaves_queue : {D : Type 0} {g : Ghosts D} (conn : Held (FileStore D g)) (store : FileStore D g) (opened : State) (start : Start) → IsTrue (view store).is_numbered → AreDatabases (recovers store)
+    → ((db : Trees) → recovers store db → recovers conn.store db) → HasCleanDisk (file_state conn) → IsTrue opened.is_open → LeavesAlone opened opened.committed.trees
+    → Means opened start.queue start.kept → CommitsNothing opened (file_state conn) → (left : Image) → (state store).may_leave left → ∥ HaveTables left start ∥₁
+leaves_queue conn store opened start numbered databases outcomes clean is_open alone means nothing left may =
+    ∥∥₁_map (opens_again store numbered databases left may) (λ db.
+    let before = nothing db.0 (clean, outcomes db.0 db.1) in
+    let rows = open_stops opened start means (λ _. alone) db.0 before is_open in
+    let same = means_rows rows.0 start.queue start.kept rows.2 in
+    record { db = rows.0; holds = subst (HoldsDatabase left) (sym rows.1) db.2; sound = rows.2.sound; ours = same.0; means = same.1 })
+
+-- so it means what the files held
 pub keeps_queue : (from : Image) {D : Type 0} {g : Ghosts D} (conn : Held (FileStore D g)) (store : FileStore D g) (opened : State) → IsTrue (view store).is_numbered → AreDatabases (recovers store)
     → ((db : Trees) → recovers store db → recovers conn.store db) → HasCleanDisk (file_state conn) → IsFound from opened
     → ((m : Queue) (k : Ledger) → Sound m → Means opened m k → CommitsNothing opened (file_state conn))
     → (left : Image) → (state store).may_leave left → KeepsQueue from left
 keeps_queue from conn store opened numbered databases outcomes clean it nothing left may start sound holds =
     let means = means_found from opened it start (found_in from it.found it.held it.sound start holds) in
-    ∥∥₁_map (opens_again store numbered databases left may) (λ db.
-    let before = nothing start.queue start.kept sound means db.0 (clean, outcomes db.0 db.1) in
-    let rows = open_stops opened start means (λ _. it.alone) db.0 before it.serves.is_open in
-    let same = means_rows rows.0 start.queue start.kept rows.2 in
-    record { db = rows.0; holds = subst (HoldsDatabase left) (sym rows.1) db.2; sound = rows.2.sound; ours = same.0; means = same.1 })
+    leaves_queue conn store opened start numbered databases outcomes clean it.serves.is_open it.alone means (nothing start.queue start.kept sound means) left may
 
 -- ---- all of them
 

@@ -12,6 +12,8 @@ use Rattle.fax_run.specs.Sessions.{Failed, Follow, HaveOneList, IsSession, Sessi
 use Rattle.fax_run.specs.declared.arrival.Arrival.{Arrival}
 use Rattle.fax_schema.specs.Schema.{AreOurs, no_tables}
 use Rattle.fax_tables.specs.Tables.{RowsMean}
+use Rattle.fax_check.specs.Consistent.{Consistent}
+use Rattle.faxqd.specs.Check.{HoldConsistent}
 use Rattle.faxqd.specs.Restarts.{AreOf, HaveNone, HaveOneHistory, HaveTables, HoldStart, IsOf, KeepsQueue, LeadOn, LeadsFrom, Link, Looked, Ran, Served}
 
 -- ---- what files hold
@@ -29,6 +31,10 @@ none_row image start have = (have.empty, have.none)
 -- the one or the other
 hold_row : (image : Image) (start : Start) → (HaveTables image start → HoldStart image start) × (HaveNone image start → HoldStart image start)
 hold_row image start = (λ have. inl have, λ have. inr have)
+
+-- files that a check passes hold a consistent queue
+consistent_row : (image : Image) → HoldConsistent image → ∥ ((start : Start) × Consistent start.queue × HoldStart image start) ∥₁
+consistent_row image holds = holds
 
 -- ---- one start
 

@@ -25,7 +25,8 @@ use Rattle.fax_schema.specs.Schema.{grants_tree, jobs_tree, meta_tree, no_tables
 use Rattle.fax_store.specs.Adopt.{IsOurs}
 use Rattle.fax_tables.specs.Tables.{AreByRowid, RowsMean}
 use Rattle.fax_tables.specs.declared.fault.StoreFault.{StoreFault}
-use Rattle.faxqd.specs.Restarts.{KeepsQueue}
+use Rattle.fax_run.specs.Run.{Start}
+use Rattle.faxqd.specs.Restarts.{HoldStart, KeepsQueue}
 use Rattle.fax_text.specs.declared.status.Status.{Status}
 use Rattle.fax_text.specs.declared.status.Status.TheVariants.{Success, Fault, Usage, Unused, Later}
 
@@ -53,6 +54,10 @@ pub record IsVerdictOn (image : Image) (now : Database) (verdict : Option Flaw) 
   pub held : AreHeld image found.trees
   pub sound : IsDatabase found
   pub told : ((found.schema ≡ no_tables) × (verdict ≡ None)) ⊎ (IsOurs found × IsTrueOf found now verdict)
+
+-- the files hold a consistent queue
+abbrev pub HoldConsistent : Image → Type 0
+HoldConsistent image = ∥ ((start : Start) × Consistent start.queue × HoldStart image start) ∥₁
 
 -- ---- the end
 
@@ -88,6 +93,9 @@ module _ {W : Type 0} (contents : W → Option (List ℕ)) (out out₂ : Watched
     pub held : IsClean (view store)
         → (conn : Held (FileStore D g)) × IsFound image (file_state conn) × IfOk verdict (IsVerdictOn image (file_state conn).now)
     pub leaves : IsClean (view store) → (left : Image) → (stored store).may_leave left → KeepsQueue image left
+    -- Where no flaw is told of rows that stand by rowid, whatever a crash leaves holds a consistent queue, which is sound: that is the premise of `laws::restarts`.
+    pub premise : (clean : IsClean (view store)) → verdict ≡ Ok None → StandByRowid (held clean).1.found (file_state (held clean).0).now
+        → (left : Image) → (stored store).may_leave left → HoldConsistent left
 
   -- So where it succeeds, it printed that they are sound. Where it doesn't, it has no database, or told something else, or the output failed.
   abbrev pub Checks : Status → List ℕ → Type 0

@@ -18,7 +18,7 @@ returns-in_err-prospect-clause-consults g c =
     (into_iter_items c.loop.candidates.page) c.loop.candidates.front c.loop.candidates.most) (sym c.loop.invariant.asked) went.stands))))
 
 pub returns-in_default-clause-consults : goal.returns-in_default-clause-consults
-returns-in_default-clause-consults g c = goes_on (both c.loop.invariant.consults (by_step (Ok c.in_ok-prospect.field-0) c.prospect.ensures.leaves c.in_ok-prospect.ensures.opens c.in_ok-prospect.ensures.found)) (λ m k at calls sound same stands learned.
+returns-in_default-clause-consults g c = goes_on (both c.loop.invariant.consults (by_step (Ok c.in_ok-prospect.field-0) c.in_ok-prospect.ensures.leaves c.in_ok-prospect.ensures.opens c.in_ok-prospect.ensures.found)) (λ m k at calls sound same stands learned.
     let before = calls.0 same stands learned in
     let next = next_given _ _ _ _ (into_iter_items c.prospect.new.self.page) c.prospect.new.self.front c.prospect.new.self.most
     c.loop.invariant.asked c.in_default.is before.1 calls.1 in
@@ -26,11 +26,11 @@ returns-in_default-clause-consults g c = goes_on (both c.loop.invariant.consults
 
 pub returns-in_err-goes-clause-consults : goal.returns-in_err-goes-clause-consults
 returns-in_err-goes-clause-consults g c =
-    let calls = both (both c.loop.invariant.consults (by_step (Ok c.in_ok-prospect.field-0) c.prospect.ensures.leaves c.in_ok-prospect.ensures.opens c.in_ok-prospect.ensures.found)) c.in_err-goes.ensures.consults in
+    let calls = both (both c.loop.invariant.consults (by_step (Ok c.in_ok-prospect.field-0) c.in_ok-prospect.ensures.leaves c.in_ok-prospect.ensures.opens c.in_ok-prospect.ensures.found)) c.in_err-goes.ensures.consults in
     stops c.from_residual-in_err-goes.ensures.1 calls (λ m out calls sound same stands learned. out _ (calls.1 (calls.0.0 same stands learned).0))
 
 pub returns-then-branch-clause-consults : goal.returns-then-branch-clause-consults
-returns-then-branch-clause-consults g c = goes_on (both (both c.loop.invariant.consults (by_step (Ok c.in_ok-prospect.field-0) c.prospect.ensures.leaves c.in_ok-prospect.ensures.opens c.in_ok-prospect.ensures.found)) c.in_ok-goes.ensures.consults) (λ m k at calls sound same stands learned.
+returns-then-branch-clause-consults g c = goes_on (both (both c.loop.invariant.consults (by_step (Ok c.in_ok-prospect.field-0) c.in_ok-prospect.ensures.leaves c.in_ok-prospect.ensures.opens c.in_ok-prospect.ensures.found)) c.in_ok-goes.ensures.consults) (λ m k at calls sound same stands learned.
     let before = calls.0.0 same stands learned in
     let next = next_given _ _ _ _ (into_iter_items c.prospect.new.self.page) c.prospect.new.self.front c.prospect.new.self.most
     c.loop.invariant.asked c.in-Some.is before.1 calls.0.1 in
@@ -41,7 +41,7 @@ pub loop-preserved : goal.loop-preserved
 loop-preserved g c = record {
   same_reference = c.goes.ensures.same_reference ∙ c.prospect.ensures.same_reference ∙ c.loop.invariant.same_reference;
   asked = c.goes.ensures.same.0 ∙ c.prospect.ensures.asked ∙ c.loop.invariant.asked;
-  consults = goes_on (both (both c.loop.invariant.consults (by_step (Ok c.in_ok-prospect.field-0) c.prospect.ensures.leaves c.in_ok-prospect.ensures.opens c.in_ok-prospect.ensures.found)) c.in_ok-goes.ensures.consults) (λ m k at calls same stands learned.
+  consults = goes_on (both (both c.loop.invariant.consults (by_step (Ok c.in_ok-prospect.field-0) c.in_ok-prospect.ensures.leaves c.in_ok-prospect.ensures.opens c.in_ok-prospect.ensures.found)) c.in_ok-goes.ensures.consults) (λ m k at calls same stands learned.
       let before = calls.0.0 same stands learned in
       let next = next_given _ _ _ _ (into_iter_items c.prospect.new.self.page) c.prospect.new.self.front c.prospect.new.self.most
       c.loop.invariant.asked c.in-Some.is before.1 calls.0.1 in
@@ -52,14 +52,14 @@ loop-preserved g c = record {
 }
 
 pub returns-then-not-is_empty-clause-consults : goal.returns-then-not-is_empty-clause-consults
-returns-then-not-is_empty-clause-consults g c = goes_on (both (both c.loop.invariant.consults (by_step (Ok c.in_ok-prospect.field-0) c.prospect.ensures.leaves c.in_ok-prospect.ensures.opens c.in_ok-prospect.ensures.found)) c.in_ok-goes.ensures.consults) (λ m k at calls sound same stands learned.
+returns-then-not-is_empty-clause-consults g c = goes_on (both (both c.loop.invariant.consults (by_step (Ok c.in_ok-prospect.field-0) c.in_ok-prospect.ensures.leaves c.in_ok-prospect.ensures.opens c.in_ok-prospect.ensures.found)) c.in_ok-goes.ensures.consults) (λ m k at calls sound same stands learned.
     ((calls.1 (calls.0.0 same stands learned).0).1, λ free. absurd (true≢false (sym (sym c.if-not-is_empty.true ∙ c.is_empty.ensures ∙ ap (λ (numbers : List (List ℕ)). length numbers == 0) (c.as_slice.ensures.value ∙ free c.if-ends_at_busy.true))))))
 
 pub returns-clause-consults : goal.returns-clause-consults
 returns-clause-consults g c = goes_on c.loop.invariant.consults (λ m k at went sound same stands learned.
     let none = (went same stands learned).1 in
     let few = few_given c.args.candidates.now.asked m none.given _ _ _ none.stands in
-    let next = at.means.lawful.meta.next_job.1 in
+    let next = at.lawful.meta.next_job.1 in
     let counted = none.counted in
     let all : 1000000 ≤ c.loop.counter = omega arith in
     absurd (omega (arith, few, counted, next, jobs_few m sound, all)))

@@ -7,7 +7,7 @@ use Rattle.fax_decide.proofs.records.grant_at.Goals as goal
 pub returns-then-number-from-clause-consults : goal.returns-then-number-from-clause-consults
 returns-then-number-from-clause-consults g c = goes_on no_call (λ m k at none.
     let past : last_grant < c.args.number = search rules in
-    no_grant m c.args.number at.means.lawful.grants past)
+    no_grant m c.args.number at.lawful.grants past)
 
 pub returns-clause-consults : goal.returns-clause-consults
 returns-clause-consults g c = by_reading c.grant.ensures.leaves c.grant.ensures.answers

@@ -9,12 +9,12 @@ use Rattle.fax_decide.proofs.records.job_at.Goals as goal
 pub returns-in_default-clause-consults : goal.returns-in_default-clause-consults
 returns-in_default-clause-consults g c = goes_on no_call (λ m k at none.
     let past : last_job < c.args.number = search rules in
-    no_job m c.args.t c.args.number at.means.lawful.jobs past)
+    no_job m c.args.t c.args.number at.lawful.jobs past)
 
 pub returns-in-Some-2-clause-consults : goal.returns-in-Some-2-clause-consults
 returns-in-Some-2-clause-consults g c = goes_on (by_reading c.in_ok-job.ensures.leaves c.in_ok-job.ensures.answers) (λ m k at read.
     let same : c.in-Some.number ≡ c.args.number = search rules in
-    found_job m c.args.t c.args.number c.in-Some-2.job c.aged_job.result _ at.means.lawful.jobs
+    found_job m c.args.t c.args.number c.in-Some-2.job c.aged_job.result _ at.lawful.jobs
     (subst (λ n. c.in_ok-job.field-0 ≡ option_map fields_of (job_numbered n m)) same read) c.in-Some-2.is c.aged_job.ensures)
 
 pub returns-in-None-clause-consults : goal.returns-in-None-clause-consults

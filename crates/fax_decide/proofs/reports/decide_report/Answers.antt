@@ -18,7 +18,7 @@ returns-in-Some-2 g c = gives (both (both c.in_ok-grant.ensures.consults c.in_ok
     let s = settings_of c.args.office.now.setup c.args.office.now.controls in
     let grant = sym calls.0.0 ∙ c.in-Some.is in
     let job = ap (λ n. job_numbered n (aged c.args.t m)) (sym c.from.ensures) ∙ sym calls.0.1 ∙ ap (option_map (job_in (aged c.args.t m))) c.in-Some-2.is in
-    let few = (holds_found IsLawfulGrant _ m.grants c.in-Some.grant at.means.lawful.grants grant).limits.pages in
+    let few = (holds_found IsLawfulGrant _ m.grants c.in-Some.grant at.lawful.grants grant).limits.pages in
     subst (λ step. OrNoAnswer c.report_on.result (Decides step m c.args.t))
     (on_grant_is s (aged c.args.t m) c.args.t c.args.number c.args.report c.in-Some.grant _ grant job)
     (calls.1 sound (are_there m c.args.t c.args.number c.in-Some.grant c.in-Some-2.job grant job) (few.0, few.3)))

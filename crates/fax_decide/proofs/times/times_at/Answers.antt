@@ -1,4 +1,4 @@
-use Rattle.std.proofs.Common.{◌≡◌, ◌<◌, ◌∙◌, None, option_map, rules, subst, sym}
+use Rattle.std.proofs.Common.{◌≡◌, ◌<◌, ◌∙◌, option_map, rules, subst, sym}
 use Rattle.fax_core.specs.Job.{fields_of}
 use Rattle.fax_core.specs.Queue.{job_numbered, times_numbered}
 use Rattle.fax_value.specs.Limits.{last_job}
@@ -11,7 +11,7 @@ use Rattle.fax_decide.proofs.times.times_at.Goals as goal
 pub returns-in_default : goal.returns-in_default
 returns-in_default g c = goes_on no_call (λ m k at none sound.
     let past : last_job < c.args.number = search rules in
-    no_times m c.args.t c.args.number sound (no_job m c.args.t c.args.number at.means.lawful.jobs past))
+    no_times m c.args.t c.args.number sound (no_job m c.args.t c.args.number at.lawful.jobs past))
 
 pub returns-in_default-2 : goal.returns-in_default-2
 returns-in_default-2 g c = goes_on (by_reading c.in_ok-times.ensures.leaves c.in_ok-times.ensures.answers) (λ m k at read sound.

@@ -15,7 +15,7 @@ returns g c = views (goes_on (both (by_reading c.in_ok-jobs.ensures.leaves c.in_
     let s = settings_of c.args.office.now.setup c.args.office.now.controls in
     let t = c.args.t in
     let seen = map (with_state s (aged t m) t) (aged t m).jobs in
-    let rows = c.as_slice.ensures.value ∙ calls.1 ∙ briefs_seen s m t m.jobs c.in_ok-jobs.jobs.items at.means.lawful.jobs calls.0 in
+    let rows = c.as_slice.ensures.value ∙ calls.1 ∙ briefs_seen s m t m.jobs c.in_ok-jobs.jobs.items at.lawful.jobs calls.0 in
     c.in_ok-listed.ensures (subst IsStrictlyIncreasing (sym (ap (map number_of) rows ∙ numbers_thin seen)) (rows_ascend s m t sound))
     ∙ ap (λ (text : List ℕ). accepted_response (Listed text)) (ap (listing_of s.shows) rows ∙ listing_thin s.shows seen)))
 

@@ -15,7 +15,7 @@ returns g c = views (goes_on (both c.in_ok-jobs.ensures c.in_ok-rows.ensures) (�
     let s = settings_of c.args.office.now.setup c.args.office.now.controls in
     let t = c.args.t in
     let seen = map (with_state s (aged t m) t) (newest (aged t m).jobs) in
-    let rows = c.newest.ensures ∙ ap newest c.as_slice.ensures.value ∙ newest_seen s m t c.in_ok-jobs.jobs.items c.in_ok-rows.rows.items calls.1 sound at.means.lawful.jobs calls.0 in
+    let rows = c.newest.ensures ∙ ap newest c.as_slice.ensures.value ∙ newest_seen s m t c.in_ok-jobs.jobs.items c.in_ok-rows.rows.items calls.1 sound at.lawful.jobs calls.0 in
     c.in_ok-listed.ensures (subst IsStrictlyIncreasing (sym (ap (map number_of) rows ∙ numbers_thin seen)) (newest_ascend s m t sound))
     ∙ ap (λ (text : List ℕ). accepted_response (Listed text)) (ap (listing_of s.shows) rows ∙ listing_thin s.shows seen)))
 

@@ -14,7 +14,7 @@ use Rattle.fax_once.proofs.queue.Queue.step.Goals as goal
 
 pub returns-in_err-floor : goal.returns-in_err-floor
 returns-in_err-floor g c =
-    let look = looks_of g.S.Store _ _ _ c.floor.ensures.leaves in
+    let look = looks_of g.S.Store c.floor.ensures.leaves in
     let given = c.from_residual in
     record {
       leaves = search rules;
@@ -26,7 +26,7 @@ returns-in_err-floor g c =
 
 pub returns-then-get-floor : goal.returns-then-get-floor
 returns-then-get-floor g c =
-    let look = looks_of g.S.Store _ _ _ c.floor.ensures.leaves in
+    let look = looks_of g.S.Store c.floor.ensures.leaves in
     record {
       leaves = search rules;
       repeated = λ db ours rests used. look.stays db ours rests;
@@ -46,8 +46,8 @@ returns-then-get-floor g c =
 
 pub returns-in_err-kept : goal.returns-in_err-kept
 returns-in_err-kept g c =
-    let first = looks_of g.S.Store _ _ _ c.floor.ensures.leaves in
-    let look = looks_then g.S.Store _ _ _ first (looks_of g.S.Store _ _ _ c.kept.ensures.leaves) in
+    let first = looks_of g.S.Store c.in_ok-floor.ensures.leaves in
+    let look = looks_then g.S.Store first (looks_of g.S.Store c.kept.ensures.leaves) in
     let given = c.from_residual-in_err-kept in
     record {
       leaves = record { office = search rules; clean = look.clean; unchanged = λ refused. look.stays };
@@ -60,8 +60,8 @@ returns-in_err-kept g c =
 
 pub returns-in-Some : goal.returns-in-Some
 returns-in-Some g c =
-    let first = looks_of g.S.Store _ _ _ c.floor.ensures.leaves in
-    let look = looks_then g.S.Store _ _ _ first (looks_of g.S.Store _ _ _ c.kept.ensures.leaves) in
+    let first = looks_of g.S.Store c.in_ok-floor.ensures.leaves in
+    let look = looks_then g.S.Store first (looks_of g.S.Store c.kept.ensures.leaves) in
     record {
       leaves = record { office = search rules; clean = look.clean; unchanged = λ refused. look.stays };
       repeated = λ db ours rests used. look.stays db ours rests;
@@ -87,8 +87,8 @@ returns-in-Some g c =
 
 pub returns-in-None : goal.returns-in-None
 returns-in-None g c =
-    let first = looks_of g.S.Store _ _ _ c.floor.ensures.leaves in
-    let look = looks_then g.S.Store _ _ _ first (looks_of g.S.Store _ _ _ c.kept.ensures.leaves) in
+    let first = looks_of g.S.Store c.in_ok-floor.ensures.leaves in
+    let look = looks_then g.S.Store first (looks_of g.S.Store c.kept.ensures.leaves) in
     let opens = c.in_ok-kept.ensures.leaves.opens in
     record {
       leaves = record {

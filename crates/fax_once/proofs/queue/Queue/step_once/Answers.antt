@@ -1,120 +1,140 @@
-use Rattle.std.proofs.Common.{rules, ap, inl, sym, subst, ◌∙◌}
+use Rattle.std.proofs.Common.{◌≡◌, Ok, inl, rules, subst}
 use Rattle.std.specs.Prelude.{⊤}
 use Rattle.sqlite.specs.Held.{state}
-use Rattle.fax_core.specs.Clock.{decided_at}
-use Rattle.fax_core.specs.Ageing.{aged}
-use Rattle.fax_core.specs.Machine.{act}
-use Rattle.fax_store.proofs.FrameLemmas.{looks_of, looks_then, means_now}
-use Rattle.fax_store.proofs.StoreLemmas.{means_stay}
-use Rattle.fax_store.specs.Store.{Serves}
 use Rattle.fax_decide.proofs.FaultLemmas.{only_no_answer, passed_on}
-use Rattle.fax_decide.specs.Decision.{Decides}
+use Rattle.fax_decide.proofs.WorkLemmas.{refused_with}
+use Rattle.fax_store.proofs.StoreLemmas.{means_stay}
 use Rattle.fax_decide.specs.Settings.{settings_of}
-use Rattle.fax_once.proofs.CauseLemmas.{gave_out, nothing_comes, sender_named, taken_status, taken_writable}
-use Rattle.fax_once.proofs.StopLemmas.{taken_stops, then_stops}
-use Rattle.fax_once.proofs.VerdictLemmas.{accepted_leaves, lawful_ask, raised_is, raised_lawful, raised_read, refused_leaves, too_high_is}
-use Rattle.fax_once.specs.Handled.{Leaves, LeavesBy}
+use Rattle.fax_run.specs.Reading.{post_of}
+use Rattle.fax_run.specs.Verdict.{new_asked}
+use Rattle.fax_store.specs.Calls.{within}
+use Rattle.fax_store.specs.Store.{Serves, StaysAsItWas}
+use Rattle.fax_once.proofs.AnsweringLemmas.{IsLeft, accepted_leaves, accepted_stops, refused_leaves}
+use Rattle.fax_once.proofs.CauseLemmas.{gave_out}
+use Rattle.fax_once.proofs.StopLemmas.{dropped_stops, has_tables}
+use Rattle.fax_once.specs.Queue.{AnswersNew}
 use Rattle.fax_once.proofs.queue.Queue.step_once.Goals as goal
 
-pub returns-in_default : goal.returns-in_default
-returns-in_default g c = record {
-  leaves = search rules;
-  comes = λ m k sound means asks fresh. record {
-    crash = λ found may. inl may;
-    leaves = λ clean. subst (Leaves m k c.refused.result (state g.S.Store c.args.self.now.store.conn))
-        (too_high_is (settings_of c.args.self.now.office.setup c.args.self.now.office.controls) m k c.args.floor c.args.sender.now.number c.args.arrival.now c.args.ask (sym c.in_default.is ∙ c.raised.ensures))
-        (c.refused.ensures, means);
-    cause = λ serves. tt;
-  };
-}
-
-pub returns-in_err-meta : goal.returns-in_err-meta
-returns-in_err-meta g c =
+pub returns-in_err-work : goal.returns-in_err-work
+returns-in_err-work g c =
     let given = c.from_residual in
+    let stays : StaysAsItWas (state g.S.Store c.args.self.now.store.conn) (state g.S.Store c.begin.follows.lender-at-none.conn) = search rules in
     record {
-      leaves = search rules;
-      comes = λ m k sound means asks fresh. nothing_comes g.S.Store _ _ given.result m k _ (looks_of g.S.Store _ _ _ c.meta.ensures.leaves) means given.ensures.0
-          (λ serves. gave_out given.result c.in_err-meta.field-0.0 given.ensures.1 (c.in_err-meta.ensures.answers m k (means_now means) serves));
+      leaves = record { office = search rules; clean = stays.2; unchanged = λ refused. stays.1 };
+      comes = λ m k sound means asks fresh. record {
+        crash = λ found may. inl (stays.3 found may);
+        leaves = λ clean. refused_with given.result _ _ given.ensures.0 (means_stay stays.0 stays.1 m k means);
+        cause = λ serves. gave_out given.result c.in_err-work.field-0.0 given.ensures.1 c.in_err-work.ensures.cause;
+      };
     }
 
-pub returns-in_err-decision : goal.returns-in_err-decision
-returns-in_err-decision g c =
-    let first = looks_of g.S.Store _ _ _ c.meta.ensures.leaves in
-    let look = looks_then g.S.Store _ _ _ first c.decide.ensures.leaves in
-    let given = c.from_residual-in_err-decision in
-    record {
-      leaves = record { office = search rules; clean = look.clean; unchanged = λ refused. look.stays };
-      comes = λ m k sound means asks fresh. nothing_comes g.S.Store _ _ given.result m k _ look means given.ensures.0
-          (λ serves.
-          let meta = c.in_ok-meta.ensures.answers m k (means_now means) (c.decide.ensures.leaves.served serves) in
-          let read = raised_read c.args.floor c.args.sender.now.number c.args.ask c.in-Some.ask (sym c.in-Some.is ∙ c.raised.ensures) asks.read in
-          only_no_answer given.result (λ _. ⊤)
-          (passed_on given.result c.in_err-decision.field-0.0 (λ _. ⊤) given.ensures.1 (c.in_err-decision.ensures.cause m k sound (means_stay first.served first.stays m k means) serves meta read)));
-    }
-
-pub returns-in-Taken : goal.returns-in-Taken
-returns-in-Taken g c =
-    let first = looks_of g.S.Store _ _ _ c.meta.ensures.leaves in
-    let look = looks_then g.S.Store _ _ _ first c.decide.ensures.leaves in
-    record {
+pub returns-in_err-reply : goal.returns-in_err-reply
+returns-in_err-reply g c =
+    let given = c.from_residual-in_err-reply in
+    let begun = c.in_ok-work.ensures.work in
+    let answers = c.in_err-reply.ensures in
+    let dropped = c.drop-work.ensures in
+    let old = state g.S.Store c.args.self.now.store.conn in
+    let same : c.drop-work.new.self.0 ≡ c.self-in_err-reply-1.given.0 = search rules in
+    subst (λ store. AnswersNew g.S.Store c.args.self.now (record c.args.self.now { store = store }) given.result c.args.arrival.now c.args.sender.now c.args.ask c.args.floor) same (record {
       leaves = record {
         office = search rules;
-        clean = λ clean. look.clean (c.accept.ensures.clean clean);
-        unchanged = λ refused db ours rests. c.accept.ensures.unchanged refused db ours (look.stays db ours rests);
+        clean = λ now. begun.clean (answers.leaves.clean (dropped.clean now));
+        unchanged = λ refused db ours rests. dropped.forgets db (answers.leaves.holds db (begun.at db ours rests));
       };
       comes = λ m k sound means asks fresh.
-          let settings = settings_of c.args.self.now.office.setup c.args.self.now.office.controls in
-          let t = c.later-t.result in
-          let ask = c.in-Some.ask in
-          let effect = c.in-Taken.effect in
-          let reply = c.in-Taken.reply in
-          let between = state g.S.Store c.decide.new.store.conn in
-          let new = state g.S.Store c.accept.new.store.conn in
-          let rises = sym c.in-Some.is ∙ c.raised.ensures in
-          let is = raised_is settings m k c.args.floor c.args.sender.now.number c.args.arrival.now c.args.ask ask rises in
-          let lawful = lawful_ask ask (raised_lawful c.args.floor c.args.sender.now.number c.args.ask ask rises asks.lawful) in
-          let looked = means_stay look.served look.stays m k means in
-          let meta = λ (at : Serves between). c.in_ok-meta.ensures.answers m k (means_now means) (c.decide.ensures.leaves.served at) in
-          let now = λ (at : Serves between). c.later-t.ensures ∙ ap (λ meta. decided_at meta.clock c.args.arrival.now.moment) (meta at) in
-          let decides = λ (at : Serves between). subst (Decides (act settings (aged t m) t ask) m t) c.in-Taken.is (c.in_ok-decision.ensures.decided m k sound (means_stay first.served first.stays m k means) at (meta at)) in
+          let none = answers.comes m m k k sound (begun.begun m k means) asks (λ at. fresh.unkept (begun.served at)) in
           record {
-            crash = then_stops (state g.S.Store c.args.self.now.store.conn) between new _ _ look.crash look.served (λ at. is)
-                (taken_stops settings c.args.arrival.now m k c.args.sender.now t ask effect c.given_by-given.result reply between new c.given_by-given.ensures asks.from now decides
-                (c.accept.ensures.crash m k looked (λ at. (decides at).suits)));
-            leaves = λ clean. subst (LeavesBy m k c.accept.result new) is
-                (accepted_leaves c.accept.result settings c.args.arrival.now m k c.args.sender.now t ask effect c.given_by-given.result reply between new
-                c.given_by-given.ensures sound lawful asks.from now decides c.accept.ensures.served c.accept.ensures.opens (c.accept.ensures.taken m k looked (λ at. (decides at).suits)) clean);
-            cause = c.accept.ensures.cause m k looked
-                (λ at. (
-                  taken_writable settings m t ask effect reply sound lawful (decides at),
-                  sender_named c.args.arrival.now c.args.sender.now asks.from,
-                  taken_status settings m t ask effect reply (decides at),
-                  fresh.unkept (look.served at),
-                ));
+            crash = λ found may. inl (dropped_stops old _ _ (state g.S.Store c.drop-work.new.self.0.conn) _ _ begun.opens (has_tables old m k means) answers.leaves.crash dropped.crash found may);
+            leaves = λ clean. refused_with given.result _ _ given.ensures.0 (dropped.undone m m k k (λ serves. (none serves).1));
+            cause = λ serves. only_no_answer given.result (λ _. ⊤) (passed_on given.result c.in_err-reply.field-0.0 (λ _. ⊤) given.ensures.1 (none (dropped.served serves)).0);
           };
-    }
+    })
 
 pub returns-in-Refused : goal.returns-in-Refused
 returns-in-Refused g c =
-    let first = looks_of g.S.Store _ _ _ c.meta.ensures.leaves in
-    let look = looks_then g.S.Store _ _ _ first c.decide.ensures.leaves in
-    record {
-      leaves = record { office = search rules; clean = look.clean; unchanged = λ refused. look.stays };
+    let begun = c.in_ok-work.ensures.work in
+    let answers = c.in_ok-reply.ensures in
+    let dropped = c.drop-work-in-Refused-1.ensures in
+    let new = state g.S.Store c.drop-work-in-Refused-1.new.self.0.conn in
+    let work = c.answer_new.new.work in
+    let there = within g.S.Store work in
+    let old = state g.S.Store c.args.self.now.store.conn in
+    let same : c.drop-work-in-Refused-1.new.self.0 ≡ c.self-in-Refused-1.given.0 = search rules in
+    subst (λ store. AnswersNew g.S.Store c.args.self.now (record c.args.self.now { store = store }) (Ok c.in-Refused.reply) c.args.arrival.now c.args.sender.now c.args.ask c.args.floor) same (record {
+      leaves = record {
+        office = search rules;
+        clean = λ now. begun.clean (answers.leaves.clean (dropped.clean now));
+        unchanged = λ refused db ours rests. dropped.forgets db (answers.leaves.holds db (begun.at db ours rests));
+      };
       comes = λ m k sound means asks fresh.
-          let settings = settings_of c.args.self.now.office.setup c.args.self.now.office.controls in
-          let t = c.later-t.result in
-          let ask = c.in-Some.ask in
-          let between = state g.S.Store c.decide.new.store.conn in
-          let meta = λ (at : Serves between). c.in_ok-meta.ensures.answers m k (means_now means) (c.decide.ensures.leaves.served at) in
-          let now = λ (at : Serves between). c.later-t.ensures ∙ ap (λ meta. decided_at meta.clock c.args.arrival.now.moment) (meta at) in
-          let decides = λ (at : Serves between). subst (Decides (act settings (aged t m) t ask) m t) c.in-Refused.is (c.in_ok-decision.ensures.decided m k sound (means_stay first.served first.stays m k means) at (meta at)) in
+          let v = new_asked (settings_of c.args.self.now.office.setup c.args.self.now.office.controls) m k c.args.floor (post_of c.args.arrival.now c.args.sender.now.number c.args.ask) in
+          let left = answers.comes m m k k sound (begun.begun m k means) asks (λ at. fresh.unkept (begun.served at)) in
+          let tables = has_tables old m k means in
           record {
-            crash = λ found may. inl (look.crash found may);
+            crash = λ found may. inl (dropped_stops old _ _ new _ _ begun.opens tables answers.leaves.crash dropped.crash found may);
             leaves = λ clean.
-                let at = c.in_ok-decision.ensures.opens clean (c.in_ok-meta.ensures.leaves.opens (c.decide.ensures.leaves.clean clean)) in
-                subst (Leaves m k c.in-Refused.reply between)
-                (raised_is settings m k c.args.floor c.args.sender.now.number c.args.arrival.now c.args.ask ask (sym c.in-Some.is ∙ c.raised.ensures))
-                (refused_leaves settings c.args.arrival.now m k c.args.sender.now t ask c.in-Refused.reply between (now at) (decides at) (means_stay look.served look.stays m k means));
+                let at = answers.opens (begun.opens.0 tables) (dropped.clean clean) in
+                refused_leaves there new work.failed m k v c.in-Refused.reply (subst (λ x. IsLeft there work.failed m m k k x v) c.in-Refused.is (left at)) (dropped.undone m _ k _ (λ serves. (left serves).2));
             cause = λ serves. tt;
           };
-    }
+    })
+
+pub returns-in_err-commit-in-Accepted : goal.returns-in_err-commit-in-Accepted
+returns-in_err-commit-in-Accepted g c =
+    let given = c.from_residual-in_err-commit-in-Accepted in
+    let begun = c.in_ok-work.ensures.work in
+    let answers = c.in_ok-reply.ensures in
+    let ended = c.in_err-commit-in-Accepted.ensures in
+    let new = state g.S.Store c.commit.new.self.0.conn in
+    let work = c.answer_new.new.work in
+    let there = within g.S.Store work in
+    let old = state g.S.Store c.args.self.now.store.conn in
+    let same : c.commit.new.self.0 ≡ c.self-in-Accepted-1.given.0 = search rules in
+    subst (λ store. AnswersNew g.S.Store c.args.self.now (record c.args.self.now { store = store }) given.result c.args.arrival.now c.args.sender.now c.args.ask c.args.floor) same (record {
+      leaves = record {
+        office = search rules;
+        clean = λ now. begun.clean (answers.leaves.clean (ended.clean now));
+        unchanged = λ refused db ours rests. ended.forgets db (answers.leaves.holds db (begun.at db ours rests));
+      };
+      comes = λ m k sound means asks fresh.
+          let v = new_asked (settings_of c.args.self.now.office.setup c.args.self.now.office.controls) m k c.args.floor (post_of c.args.arrival.now c.args.sender.now.number c.args.ask) in
+          let left = answers.comes m m k k sound (begun.begun m k means) asks (λ at. fresh.unkept (begun.served at)) in
+          let accepts = λ (at : Serves there). subst (λ x. IsLeft there work.failed m m k k x v) c.in-Accepted.is (left at) in
+          record {
+            crash = accepted_stops old _ there new _ work.failed begun.opens (has_tables old m k means) answers.leaves.crash m k v c.in-Accepted.reply accepts ended.clean
+                (λ at. begun.served (answers.leaves.served at)) ended.crash;
+            leaves = λ clean. refused_with given.result _ _ given.ensures.0 (ended.undone m _ k _ (λ serves. (left serves).2));
+            cause = λ serves. gave_out given.result c.in_err-commit-in-Accepted.field-0.0 given.ensures.1 ended.cause;
+          };
+    })
+
+pub returns-in_ok-commit-in-Accepted : goal.returns-in_ok-commit-in-Accepted
+returns-in_ok-commit-in-Accepted g c =
+    let begun = c.in_ok-work.ensures.work in
+    let answers = c.in_ok-reply.ensures in
+    let ended = c.in_ok-commit-in-Accepted.ensures in
+    let new = state g.S.Store c.commit.new.self.0.conn in
+    let work = c.answer_new.new.work in
+    let there = within g.S.Store work in
+    let old = state g.S.Store c.args.self.now.store.conn in
+    let same : c.commit.new.self.0 ≡ c.self-in-Accepted-1.given.0 = search rules in
+    subst (λ store. AnswersNew g.S.Store c.args.self.now (record c.args.self.now { store = store }) (Ok c.in-Accepted.reply) c.args.arrival.now c.args.sender.now c.args.ask c.args.floor) same (record {
+      leaves = record {
+        office = search rules;
+        clean = λ now. begun.clean (answers.leaves.clean (ended.clean now));
+        unchanged = λ refused. absurd (refused (search rules));
+      };
+      comes = λ m k sound means asks fresh.
+          let v = new_asked (settings_of c.args.self.now.office.setup c.args.self.now.office.controls) m k c.args.floor (post_of c.args.arrival.now c.args.sender.now.number c.args.ask) in
+          let left = answers.comes m m k k sound (begun.begun m k means) asks (λ at. fresh.unkept (begun.served at)) in
+          let accepts = λ (at : Serves there). subst (λ x. IsLeft there work.failed m m k k x v) c.in-Accepted.is (left at) in
+          record {
+            crash = accepted_stops old _ there new _ work.failed begun.opens (has_tables old m k means) answers.leaves.crash m k v c.in-Accepted.reply accepts ended.clean
+                (λ at. begun.served (answers.leaves.served at)) ended.crash;
+            leaves = λ clean.
+                let serves = ended.opens clean in
+                accepted_leaves there new work.failed m k v c.in-Accepted.reply (accepts (ended.served serves)) serves (ended.committed m _ k _ (λ at. (left at).2));
+            cause = λ serves. tt;
+          };
+    })

@@ -12,5 +12,5 @@ returns g c = record {
   same = search rules;
   asked = search rules;
   stands = λ m k means serves. let empty : into_iter_items c.into_iter.result ≡ [] = search rules in
-      subst (λ rows. StandsAt c.args.asked m [] rows First FIRST_PAGE) (sym empty) (stands_first _ m k (means serves).means c.args.asked FIRST_PAGE (omega arith) (omega arith));
+      subst (λ rows. StandsAt c.args.asked m [] rows First FIRST_PAGE) (sym empty) (stands_first _ m k (means serves) c.args.asked FIRST_PAGE (omega arith) (omega arith));
 }

@@ -1,5 +1,0 @@
-use Rattle.fax_store.proofs.FrameLemmas.{tells_lawful_by}
-use Rattle.fax_store.proofs.work.Work.hold_of.Goals as goal
-
-pub returns : goal.returns
-returns g c = let told = c.hold_of-found.ensures in tells_lawful_by g.S.Store c.if-self.false c.is_err-self.ensures.value told.leaves told.answers told.lawful

@@ -1,5 +1,0 @@
-use Rattle.fax_store.proofs.FrameLemmas.{tells_by}
-use Rattle.fax_store.proofs.work.Work.waiting.Goals as goal
-
-pub returns : goal.returns
-returns g c = tells_by g.S.Store c.if-self.false c.is_err-self.ensures.value c.waiting-found.ensures.leaves c.waiting-found.ensures.answers
