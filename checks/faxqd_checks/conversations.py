@@ -1,4 +1,7 @@
 """The transcripts of checks/conversations/."""
+import concurrent.futures
+import os
+
 from .runner import group
 from .shared import CONVERSATIONS, attempt, expect, expect_same, run, say, words_of
 
@@ -11,10 +14,15 @@ def replies(folder):
     with 1, else with 0."""
     names = [file.stem for file in sorted(CONVERSATIONS.glob("*.in"))]
     expect(names, "there are no transcripts")
-    for name in names:
-        with attempt(name):
-            agrees(name)
+    with concurrent.futures.ThreadPoolExecutor(len(os.sched_getaffinity(0))) as pool:
+        list(pool.map(attempted, names))
     say(f"{len(names)} transcripts")
+
+
+def attempted(name):
+    """What goes wrong with a transcript is a fault of it alone."""
+    with attempt(name):
+        agrees(name)
 
 
 def agrees(name):
