@@ -20,7 +20,7 @@ use Rattle.fax_schema.specs.declared.statements.TheConstants.{CREATE_JOBS, CREAT
 use Rattle.fax_schema.specs.declared.statements.TheConstants.{SELECT_META, UPDATE_CLOCK, UPDATE_META}
 use Rattle.fax_schema.specs.declared.statements.TheConstants.{SELECT_REPLY, INSERT_REPLY}
 use Rattle.fax_schema.specs.declared.statements.TheConstants.{SELECT_FIRST, SELECT_BEHIND_NUMBER, SELECT_BEHIND_TIME, SELECT_BEHIND_PRIORITY}
-use Rattle.fax_schema.specs.declared.statements.TheConstants.{SELECT_JOB, SELECT_BRIEF, INSERT_JOB, UPDATE_JOB, SELECT_EXPIRED, EXPIRE_JOBS, SELECT_WAITING, SELECT_BRIEFS, SELECT_BRIEFS_FROM}
+use Rattle.fax_schema.specs.declared.statements.TheConstants.{SELECT_JOB, SELECT_BRIEF, INSERT_JOB, UPDATE_JOB, SELECT_EXPIRED, EXPIRE_JOBS, SELECT_BRIEFS, SELECT_BRIEFS_FROM}
 use Rattle.fax_layout.proofs.SelectLemmas.{rows_by, rows_where}
 use Rattle.fax_schema.proofs.UpdateLemmas.{program_of}
 use Rattle.fax_schema.proofs.StatementForms.{equals, Makes, Selects, SelectsAll, SelectsBy, Commands}
@@ -233,11 +233,6 @@ waiting_tests =
 abbrev pub waiting_order : List (Term × Key)
 waiting_order = (col 1 9, ascending Binary) ∷ (col 1 7, ascending Binary) ∷ (col 1 0, ascending Binary) ∷ []
 
--- SELECT_WAITING reads the jobs that are due, in the order of the choice
-pub select_waiting : SelectsBy SELECT_WAITING.now jobs_tree waiting_tests job_project waiting_order job_names
-unfolding understood everything
-select_waiting = record { command = refl; plain = (refl, refl); unlisted = refl }
-
 -- what the choice asks of a job that waits
 abbrev pub prospect_project : List Term
 prospect_project = col 1 0 ∷ col 1 2 ∷ col 1 3 ∷ col 1 9 ∷ col 1 7 ∷ []
@@ -270,17 +265,17 @@ unfolding understood everything
 select_behind_number = record { command = refl; plain = (refl, refl); unlisted = refl }
 
 abbrev pub time_tests : List Term
-time_tests = other_tests ++ equals (col 1 9) (col 0 3) ∷ op2 (Compare Gt Binary) (col 1 7) (col 0 4) ∷ []
+time_tests = other_tests ++ equals (col 1 9) (col 0 3) ∷ op2 (Compare Ge Binary) (col 1 7) (col 0 4) ∷ []
 
--- SELECT_BEHIND_TIME reads those of the same priority, behind a time
+-- SELECT_BEHIND_TIME reads those of the same priority, from a time on
 pub select_behind_time : SelectsPage SELECT_BEHIND_TIME.now time_tests
 unfolding understood everything
 select_behind_time = record { command = refl; plain = (refl, refl); unlisted = refl }
 
 abbrev pub priority_tests : List Term
-priority_tests = other_tests ++ op2 (Compare Gt Binary) (col 1 9) (col 0 3) ∷ []
+priority_tests = other_tests ++ op2 (Compare Ge Binary) (col 1 9) (col 0 3) ∷ []
 
--- SELECT_BEHIND_PRIORITY reads those behind a priority
+-- SELECT_BEHIND_PRIORITY reads those from a priority on
 pub select_behind_priority : SelectsPage SELECT_BEHIND_PRIORITY.now priority_tests
 unfolding understood everything
 select_behind_priority = record { command = refl; plain = (refl, refl); unlisted = refl }

@@ -66,12 +66,6 @@ pub const SELECT_BRIEF: &str = "SELECT job, dial, modem, jobtag, status, tts, ki
     npages, totpages, ntries, tottries, maxtries, ndials, totdials, maxdials, phase, wish, next \
     FROM jobs WHERE job = ?1";
 
-pub const SELECT_WAITING: &str =
-    "SELECT job, dial, modem, jobtag, status, tts, killtime, priority, \
-    npages, totpages, ntries, tottries, maxtries, ndials, totdials, maxdials, phase, wish, next, extra \
-    FROM jobs WHERE phase = 1 AND tts <= ?1 AND next <= ?1 AND (killtime = 0 OR killtime > ?1) \
-    ORDER BY priority, tts, job";
-
 pub const SELECT_BRIEFS: &str = "SELECT job, dial, modem, jobtag, status, tts, killtime, priority, \
     npages, totpages, ntries, tottries, maxtries, ndials, totdials, maxdials, phase, wish, next \
     FROM jobs ORDER BY job";
@@ -133,6 +127,8 @@ pub const DELETE_GRANTS: &str = "DELETE FROM grants WHERE job = ?1";
 
 // ---- the jobs that wait, a page at a time
 
+// An index is read from the first entry that has the bounds' values, so `tts > ?5` would pass over all entries of that time.
+
 pub const SELECT_FIRST: &str = "SELECT job, dial, modem, priority, tts FROM jobs \
     WHERE phase = 1 AND tts <= ?1 AND next <= ?1 AND (killtime = 0 OR killtime > ?1) \
     AND dial IS NOT ?3 ORDER BY priority, tts, job LIMIT ?2";
@@ -143,11 +139,11 @@ pub const SELECT_BEHIND_NUMBER: &str = "SELECT job, dial, modem, priority, tts F
 
 pub const SELECT_BEHIND_TIME: &str = "SELECT job, dial, modem, priority, tts FROM jobs \
     WHERE phase = 1 AND tts <= ?1 AND next <= ?1 AND (killtime = 0 OR killtime > ?1) \
-    AND dial IS NOT ?3 AND priority = ?4 AND tts > ?5 ORDER BY priority, tts, job LIMIT ?2";
+    AND dial IS NOT ?3 AND priority = ?4 AND tts >= ?5 ORDER BY priority, tts, job LIMIT ?2";
 
 pub const SELECT_BEHIND_PRIORITY: &str = "SELECT job, dial, modem, priority, tts FROM jobs \
     WHERE phase = 1 AND tts <= ?1 AND next <= ?1 AND (killtime = 0 OR killtime > ?1) \
-    AND dial IS NOT ?3 AND priority > ?4 ORDER BY priority, tts, job LIMIT ?2";
+    AND dial IS NOT ?3 AND priority >= ?4 ORDER BY priority, tts, job LIMIT ?2";
 
 // ---- grants, holds and calls
 

@@ -7,13 +7,13 @@ use Rattle.fax_schema.proofs.PurgeTexts.{delete_grants, delete_job, delete_times
 use Rattle.fax_schema.proofs.StatementTexts.{expire_jobs, insert_job, insert_reply, update_clock, update_job, update_meta}
 use Rattle.fax_schema.proofs.StatementTexts.{select_behind_number, select_behind_priority, select_behind_time, select_first}
 use Rattle.fax_schema.proofs.StatementTexts.{select_brief, select_briefs, select_briefs_from, select_dial, select_expired, select_held, select_holders, select_job, select_lost}
-use Rattle.fax_schema.proofs.StatementTexts.{select_meta, select_reply, select_version, select_waiting}
+use Rattle.fax_schema.proofs.StatementTexts.{select_meta, select_reply, select_version}
 use Rattle.fax_schema.proofs.TimesTexts.{delete_grant, end_times, insert_times, select_phases, select_strays, select_times}
 use Rattle.fax_store.proofs.StatementLemmas.{edit_text}
 
 pub ruleset pages = (select_behind_number, select_behind_priority, select_behind_time, select_first)
 
-pub ruleset jobs = (expire_jobs, insert_job, select_brief, select_briefs, select_briefs_from, select_dial, select_expired, select_job, select_waiting, update_job)
+pub ruleset jobs = (expire_jobs, insert_job, select_brief, select_briefs, select_briefs_from, select_dial, select_expired, select_job, update_job)
 
 pub ruleset grants = (delete_calls, delete_hold, insert_calls, insert_grant, insert_hold, select_grant, select_hold, select_holders, select_open, shut_grant, update_report)
 

@@ -153,10 +153,12 @@ impl<S: Alter> Store<S> {
                 self.show(SELECT_BEHIND_NUMBER, params)
             }
             Front::Time(priority, tts) => {
-                self.show(SELECT_BEHIND_TIME, params![t, most, but, priority, tts])
+                let from = i64::from(tts) + 1;
+                self.show(SELECT_BEHIND_TIME, params![t, most, but, priority, from])
             }
             Front::Priority(priority) => {
-                self.show(SELECT_BEHIND_PRIORITY, params![t, most, but, priority])
+                let from = i64::from(priority) + 1;
+                self.show(SELECT_BEHIND_PRIORITY, params![t, most, but, from])
             }
         }
     }

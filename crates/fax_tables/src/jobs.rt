@@ -260,22 +260,6 @@ pub fn brief_in(alloc: Global, row: &Row) -> Result<Job, StoreFault>
     }
 }
 
-/// The jobs in rows of all columns, in their order.
-pub fn jobs_in(alloc: Global, rows: &[Row]) -> Result<Vec<Job>, StoreFault>
-    ensures found { (jobs : List OneJob) → rows.now ≡ map (λ j. job_shown (fields_of j)) jobs → All IsLawfulJob jobs
-        → OrUnavailable result (λ found. found.items ≡ map fields_of jobs) }
-    ensures stands { IfOk result (λ found. map (take 20) rows.now ≡ map job_shown found.items) }
-{
-    let mut jobs = Vec::new(alloc);
-    for row in rows {
-        let job = job_in(alloc, row)?;
-        if jobs.push(job).is_err() {
-            return Err(StoreFault::Unavailable);
-        }
-    }
-    Ok(jobs)
-}
-
 /// The jobs in rows of all columns but the extra lines, without any, in their order.
 pub fn briefs_in(alloc: Global, rows: &[Row]) -> Result<Vec<Job>, StoreFault>
     ensures found { (jobs : List OneJob) → rows.now ≡ map (λ j. brief_shown (fields_of j)) jobs → All IsLawfulJob jobs

@@ -20,8 +20,8 @@ pub use grants::{
     Hold, call_at, call_number, calls_in, grant_in, held_job_in, holders_in, is_open_grant,
 };
 pub use jobs::{
-    brief_in, briefs_in, dial_at, dial_in, is_over_phase, job_in, jobs_in, killtime_number,
-    phase_number, spelling, wish_number,
+    brief_in, briefs_in, dial_at, dial_in, is_over_phase, job_in, killtime_number, phase_number,
+    spelling, wish_number,
 };
 pub use meta::{Meta, PAST_GRANTS, PAST_JOBS, is_version};
 pub use prospect::{Prospect, prospect_in};
