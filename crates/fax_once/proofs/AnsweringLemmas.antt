@@ -21,7 +21,7 @@ use Rattle.fax_once.specs.Acceptance.{IsBy, MayBeKept, left_by}
 use Rattle.fax_once.specs.Handled.{Leaves}
 use Rattle.fax_once.specs.Stop.{AreMadeBy, StopsBy}
 use Rattle.fax_once.specs.declared.acceptance.Answered.{Answered}
-use Rattle.fax_once.specs.declared.acceptance.Answered.TheVariants.{Refused, Accepted}
+use Rattle.fax_once.specs.declared.acceptance.Answered.TheVariants.{Unchanged, Accepted}
 
 -- a work that is under way is in a store that serves, as long as the disk is clean
 pub active_serves : (s : State) (failed : Bool) → failed ≡ false → IsActive s failed → HasCleanDisk s → Serves s
@@ -39,6 +39,11 @@ pub opened_by : {S : Type 0} (g : Ghosts S) (old between new : Work S) {A : Type
 opened_by g old between new (Ok x) first next goes = λ active clean. active_serves (within g new) new.failed goes (next.crash (first.crash active).0).0 clean
 opened_by g old between new (Err e) first next goes = tt
 
+-- what holds whatever comes of a call holds where it has a result
+pub on_each : {A E : Type 0} (result : Result A E) {P : Type 0} → P → OnOk result P
+on_each (Ok x) p = p
+on_each (Err e) p = tt
+
 -- what is accepted may be kept
 pub kept_by : (result : Result Answered Fault) (reply : Response) → IfOk result (λ x. (x ≡ Accepted reply) × IsKeptStatus reply.status) → IfOk result MayBeKept
 kept_by (Ok x) reply gives = subst MayBeKept (sym gives.0) gives.1
@@ -50,8 +55,8 @@ module _ (s : State) (failed : Bool) (m₀ m : Queue) (k₀ k : Ledger) where
   IsLeft x v = IsBy x v × Sound (left_by m k v).queue × IsUnderWay s failed m₀ k₀ (left_by m k v).queue (left_by m k v).kept
 
   -- a refusal leads nowhere
-  pub refused_by : (v : Verdict) (reply : Response) → Told reply ≡ v → Sound m → IsUnderWay s failed m₀ k₀ m k → IsLeft (Refused reply) v
-  refused_by v reply is sound under = subst (IsLeft (Refused reply)) is (refl, sound, under)
+  pub refused_by : (v : Verdict) (reply : Response) → Told reply ≡ v → Sound m → IsUnderWay s failed m₀ k₀ m k → IsLeft (Unchanged reply) v
+  refused_by v reply is sound under = subst (IsLeft (Unchanged reply)) is (refl, sound, under)
 
   -- what is accepted leads to what it makes
   pub accepted_by : (v : Verdict) (reply : Response) (after : Queue) (kept : Ledger) → verdict.Accepted after kept reply ≡ v → Sound after → IsUnderWay s failed m₀ k₀ after kept → IsLeft (Accepted reply) v
@@ -72,7 +77,7 @@ no_answer (Ok x) fault P is why under = absurd is
 no_answer (Err e) fault P is why under = (is ∙ why, under)
 
 -- what a refusal leaves
-pub refused_leaves : (s new : State) (failed : Bool) (m : Queue) (k : Ledger) (v : Verdict) (reply : Response) → IsLeft s failed m m k k (Refused reply) v → Means new m k → Leaves m k reply new v
+pub refused_leaves : (s new : State) (failed : Bool) (m : Queue) (k : Ledger) (v : Verdict) (reply : Response) → IsLeft s failed m m k k (Unchanged reply) v → Means new m k → Leaves m k reply new v
 refused_leaves s new failed m k v reply left means = subst (Leaves m k reply new) (sym left.0) (refl, means)
 
 -- what an acceptance leaves, once it is committed

@@ -1,11 +1,10 @@
 -- Why a request gets no answer.
 use Rattle.std.proofs.Common.{◌≡◌, inl, inr, ℕ, ◌==◌, ◌&&◌, Bool, true, false, List, [], ◌∷◌, Option, Some, None, Ok, Err, refl, sym, ap, subst, ◌∙◌, if◌then◌else◌}
-use Rattle.std.specs.Prelude.{MatchOption, Result, IsErr, IsErrAnd}
+use Rattle.std.specs.Prelude.{MatchOption, Result, IsErrAnd}
 use Rattle.std.specs.Str.{bytes_eq}
 use Rattle.std.proofs.lemmas.Bool.{eq-eqb}
 use Rattle.std.proofs.lemmas.Slice.Eq.{bytes_eq-Decides}
 use Rattle.sqlite_rules.specs.Lists.{Has}
-use Rattle.sqlite_trees.specs.declared.store.Store.{Ghosts}
 use Rattle.fax_value.specs.Name.{IsName, is_name}
 use Rattle.fax_value.specs.Number.{request_number_of}
 use Rattle.fax_job.specs.declared.refusal.Refusal.TheVariants.{BadClient}
@@ -19,7 +18,7 @@ use Rattle.fax_ask.specs.declared.request.Request.TheVariants.{Show, Submit, Imp
 use Rattle.fax_ask.specs.declared.request.Action.{Action}
 use Rattle.fax_ask.specs.declared.request.Action.TheVariants.{Suspend, Resume, Kill, Alter}
 use Rattle.fax_core.specs.Ask.{IsLawfulAsk}
-use Rattle.fax_core.specs.Ledger.{Ledger, kept_for, IsKeptStatus}
+use Rattle.fax_core.specs.Ledger.{kept_for, IsKeptStatus}
 use Rattle.fax_core.specs.Ageing.{aged}
 use Rattle.fax_core.specs.Machine.{act}
 use Rattle.fax_core.specs.Queue.{Queue, Entry}
@@ -29,11 +28,8 @@ use Rattle.fax_core.specs.Sound.{Sound}
 use Rattle.fax_core.specs.declared.ask.Ask.{Ask}
 use Rattle.fax_core.specs.declared.ask.JobAsk.{JobAsk}
 use Rattle.fax_core.proofs.StepLemmas.{step_sound}
-use Rattle.fax_store.proofs.StoreLemmas.{means_stay}
-use Rattle.fax_store.specs.Calls.{Looks}
 use Rattle.fax_store.specs.Job.{with_expired}
 use Rattle.fax_store.specs.Kept.{IsOf, IsUnkept}
-use Rattle.fax_store.specs.Store.{Means, Serves}
 use Rattle.fax_tables.specs.declared.fault.StoreFault.{StoreFault}
 use Rattle.fax_tables.specs.declared.fault.StoreFault.TheVariants.{Unavailable}
 use Rattle.fax_decide.specs.Decision.{IsTaken}
@@ -41,14 +37,10 @@ use Rattle.fax_decide.specs.Effect.{IsWritable}
 use Rattle.fax_decide.specs.Read.{IsRead, IsReadOn}
 use Rattle.fax_decide.specs.declared.effect.Effect.{Effect}
 use Rattle.fax_decide.proofs.FreeLemmas.{keys_free}
-use Rattle.fax_decide.proofs.WorkLemmas.{refused_with}
 use Rattle.fax_decide.specs.Fault.{OnlyNoAnswer, fault_of}
 use Rattle.fax_decide.specs.declared.fault.Fault.{Fault}
 use Rattle.fax_once.specs.Sender.{IsSender}
 use Rattle.fax_run.specs.Arrival.{digits_of}
-use Rattle.fax_once.specs.Queue.{ComesTo, tables}
-use Rattle.fax_run.specs.Verdict.{Verdict}
-use Rattle.fax_once.specs.declared.queue.Queue.{Queue as SendQueue}
 use Rattle.fax_run.specs.declared.arrival.Arrival.{Arrival}
 use Rattle.fax_once.specs.declared.sender.Sender.{Sender}
 use Rattle.fax_run.proofs.ReadingLemmas.{same_ask}
@@ -131,12 +123,3 @@ taken_writable s m t ask effect reply sound lawful by =
 pub gave_out : {A : Type 0} (r : Result A Fault) (fault : StoreFault) → IsErrAnd r (λ e. e ≡ fault_of fault) → fault ≡ Unavailable → OnlyNoAnswer r
 gave_out (Ok x) fault is why = tt
 gave_out (Err e) fault is why = is ∙ ap fault_of why
-
--- where a look at the store gives none, that is all that comes of a request
-pub nothing_comes : {S : Type 0} (g : Ghosts S) (old new : SendQueue S) (r : Result Response Fault) (m : Queue) (k : Ledger) (v : Verdict) {X E : Type 0} {from : Result X E} → Looks g old.store new.store from → Means (tables g old) m k
-    → IsErr r → (Serves (tables g new) → OnlyNoAnswer r) → ComesTo g old new r m k v
-nothing_comes g old new r m k v looks means none cause = record {
-  crash = λ found may. inl (looks.crash found may);
-  leaves = λ clean. refused_with r _ _ none (means_stay looks.served looks.stays m k means);
-  cause = cause;
-}

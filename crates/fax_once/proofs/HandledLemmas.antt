@@ -54,6 +54,12 @@ leaves_at here reply store (Told told) (is, rest) = (is, rest)
 leaves_at here reply store (Repeated told) (is, serves, rest) = (is, λ _. rest)
 leaves_at here reply store (Accepted after kept told) (is, serves, rest, sound) = (is, λ _. rest)
 
+-- what a verdict makes are the rows of where it leads
+rows_of : (here : Start) (v : Verdict) (found : Trees) → AreMadeBy v found → RowsFound found (left_of here v).queue (left_of here v).kept
+rows_of here (Told reply) found made = absurd made
+rows_of here (Repeated reply) found made = absurd made
+rows_of here (Accepted after kept reply) found made = made
+
 -- what a crash leaves of a store that is open: what it means
 pub open_stops : (store : State) (e : Start) → Means store e.queue e.kept → (Serves store → LeavesAlone store store.committed.trees)
     → (found : Trees) → MayFind store found → store.is_open ≡ true → RowsFound found e.queue e.kept
@@ -125,50 +131,62 @@ module _ (s : Settings) (start : Start) (arrivals : List Arrival) (replies : Lis
     abbrev Stays : Type 0
     Stays = end_of s start on.heard ≡ here
 
-    -- what one of the arrivals before made stays what it makes
+    -- what a batch of the arrivals before made stays what it makes
     made_before : Stays → (found : Trees) → IsMadeIn s start arrivals replies ran.heard found
         → IsMadeIn s start (arrivals ++ a ∷ []) (replies ++ reply ∷ []) on.heard found
-    made_before stays found it =
+    made_before stays found made =
         let more = heard_on h in
+        let it = made.failed in
         record {
-          before = it.before;
-          arrival = it.arrival;
-          behind = it.behind ++ a ∷ [];
-          one = ap (λ (xs : List Arrival). xs ++ a ∷ []) it.one ∙ append_assoc it.before (it.arrival ∷ it.behind) (a ∷ []);
-          told = it.told;
-          more = it.more ++ reply ∷ [];
-          answers = ap (λ (xs : List Response). xs ++ reply ∷ []) it.answers ∙ append_assoc it.told (refused_response Unavailable NoKeys ∷ it.more) (reply ∷ []);
-          later = more.0 ++ it.later;
-          earlier = it.earlier;
-          then = more.1 ∙ ap (λ (xs : List Reading). more.0 ++ xs) it.then ∙ sym (append_assoc more.0 it.later it.earlier);
-          answered = it.answered;
-          still = stays ∙ it.still;
-          verdict = it.verdict;
-          is = it.is;
-          made = it.made;
+          batch = made.batch;
+          failed = record {
+            before = it.before;
+            after = it.after ++ a ∷ [];
+            one = ap (λ (xs : List Arrival). xs ++ a ∷ []) it.one ∙ append_assoc it.before (made.batch ++ it.after) (a ∷ [])
+                ∙ ap (λ (xs : List Arrival). it.before ++ xs) (append_assoc made.batch it.after (a ∷ []));
+            replied = it.replied;
+            failed = it.failed;
+            more = it.more ++ reply ∷ [];
+            answers = ap (λ (xs : List Response). xs ++ reply ∷ []) it.answers ∙ append_assoc it.replied (it.failed ++ it.more) (reply ∷ [])
+                ∙ ap (λ (xs : List Response). it.replied ++ xs) (append_assoc it.failed it.more (reply ∷ []));
+            each = it.each;
+            later = more.0 ++ it.later;
+            earlier = it.earlier;
+            parts = more.1 ∙ ap (λ (xs : List Reading). more.0 ++ xs) it.parts ∙ sym (append_assoc more.0 it.later it.earlier);
+            answered = it.answered;
+            still = stays ∙ it.still;
+          };
+          all = made.all;
+          taken = made.taken;
+          made = made.made;
         }
 
-    -- and this one may have made what it makes
+    -- and this one, as a batch of its own, may have made what it makes
     made_now : reply ≡ refused_response Unavailable NoKeys → Stays → (found : Trees) (v : Verdict) → IsVerdict s a here.queue here.kept v → AreMadeBy v found
         → IsMadeIn s start (arrivals ++ a ∷ []) (replies ++ reply ∷ []) on.heard found
-    made_now failed stays found v is made =
+    made_now failed stays found v (r, reads, is) made =
         let more = heard_on h in
+        let same : end_of s start (r ∷ ran.heard) ≡ left_of here v = runs_thread s start ran.heard r ∙ ap (left_of here) (sym is) in
         record {
-          before = arrivals;
-          arrival = a;
-          behind = [];
-          one = refl;
-          told = replies;
-          more = [];
-          answers = ap (λ (x : Response). replies ++ x ∷ []) failed;
-          later = more.0;
-          earlier = ran.heard;
-          then = more.1;
-          answered = ran.answered;
-          still = stays;
-          verdict = v;
-          is = is;
-          made = made;
+          batch = a ∷ [];
+          failed = record {
+            before = arrivals;
+            after = [];
+            one = refl;
+            replied = replies;
+            failed = reply ∷ [];
+            more = [];
+            answers = refl;
+            each = (failed, tt);
+            later = more.0;
+            earlier = ran.heard;
+            parts = more.1;
+            answered = ran.answered;
+            still = stays;
+          };
+          all = r ∷ ran.heard;
+          taken = (r, reads, refl);
+          made = subst (λ (e : Start). RowsFound found e.queue e.kept) (sym same) (rows_of here v found made);
         }
 
     -- so a shut store's crash leaves what a crash before left, or what this one made

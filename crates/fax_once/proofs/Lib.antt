@@ -7,6 +7,8 @@ pub mod HandledLemmas
 pub mod SessionsLemmas
 mod SaidLemmas
 mod CauseLemmas
+mod LookingLemmas
+mod BatchLemmas
 mod AnsweringLemmas
 mod ShutLemmas
 mod RowsLeft

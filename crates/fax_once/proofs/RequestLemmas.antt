@@ -1,7 +1,6 @@
 -- What is answered by the request that method and path name.
 use Rattle.std.proofs.Common.{◌≡◌, inl, inr, ℕ, List, Option, Some, None, Ok, Err, refl, sym, ap, subst}
-use Rattle.std.specs.Prelude.{Result, IfOk, OnOk, MatchOption, MatchResult}
-use Rattle.sqlite.specs.State.{State}
+use Rattle.std.specs.Prelude.{Result, MatchOption, MatchResult}
 use Rattle.fax_job.specs.declared.refusal.Refusal.{Refusal}
 use Rattle.fax_job.specs.declared.refusal.Refusal.TheVariants.{BadBody, NoRoute}
 use Rattle.fax_job.specs.declared.refusal.BodyFault.{BodyFault}
@@ -20,12 +19,10 @@ use Rattle.fax_core.specs.Ledger.{Ledger}
 use Rattle.fax_core.specs.Queue.{Queue}
 use Rattle.fax_core.specs.Reply.{NoKeys}
 use Rattle.fax_core.specs.Settings.{Settings}
-use Rattle.fax_store.specs.Store.{Means}
 use Rattle.fax_once.specs.Sender.{IsSender}
 use Rattle.fax_run.specs.Arrival.{number_of}
 use Rattle.fax_run.specs.Reading.{Reading, Faulty, Sees, Posts, post_of, seen_by, IsForBody, IsForRoute}
 use Rattle.fax_run.specs.Verdict.{Told, denied, asked_for, IsVerdict}
-use Rattle.fax_once.specs.Handled.{LeavesBy, Answers}
 use Rattle.fax_run.specs.View.{view}
 use Rattle.fax_run.specs.declared.arrival.Arrival.{Arrival}
 use Rattle.fax_once.specs.declared.sender.Sender.{Sender}
@@ -92,22 +89,13 @@ for_sender : (a : Arrival) (o : Option Request) (e : Refusal) (ask : Ask) → nu
 for_sender a None e ask of is = absurd is
 for_sender a (Some r) e ask of is = posted a (Faulty e) r (unseen r a.body.now ask is) (by_refusal a r e of)
 
--- ---- answers
+-- ---- verdicts
 
--- what holds of an answer where the store is open, which it is where there is an answer and the disk is clean
-pub where_open : {A E : Type 0} (r : Result A E) (C S : Type 0) (P : A → Type 0) → OnOk r (C → S) → C → (S → IfOk r P) → IfOk r P
-where_open (Ok a) C S P opens clean so = so (opens clean)
-where_open (Err e) C S P opens clean so = tt
-
--- an arrival that asks for a view is answered by it, and nothing changes
-pub view_answers : {E : Type 0} (result : Result Response E) (s : Settings) (a : Arrival) (m : Queue) (k : Ledger) (x : Asked) (what : Sight) (store : State)
-    → IsAsk a.method a.path.now a.body.now x → x ≡ View what → IfOk result (λ reply. reply ≡ view s m (decided_at m.clock a.moment) what) → Means store m k → Answers s a m k result store
-view_answers (Ok reply) s a m k x what store is shown replied rests = (
-  Told (view s m (decided_at m.clock a.moment) what),
-  (Sees a.moment what, for_view a (request_of a.method a.path.now) what (subst (λ (y : Asked). IsAsk a.method a.path.now a.body.now y) shown is), refl),
-  (replied, rests),
-)
-view_answers (Err e) s a m k x what store is shown replied rests = rests
+-- the verdict on an arrival that asks for a view tells it
+pub view_verdict : (s : Settings) (a : Arrival) (m : Queue) (k : Ledger) (x : Asked) (what : Sight)
+    → IsAsk a.method a.path.now a.body.now x → x ≡ View what → IsVerdict s a m k (Told (view s m (decided_at m.clock a.moment) what))
+view_verdict s a m k x what is shown =
+    (Sees a.moment what, for_view a (request_of a.method a.path.now) what (subst (λ (y : Asked). IsAsk a.method a.path.now a.body.now y) shown is), refl)
 
 -- what is posted comes to what is asked for
 pub is_post : (s : Settings) (a : Arrival) (m : Queue) (k : Ledger) (sender : Sender) (x : Asked) (ask : Ask)
@@ -115,27 +103,11 @@ pub is_post : (s : Settings) (a : Arrival) (m : Queue) (k : Ledger) (sender : Se
 is_post s a m k sender x ask is asked from =
     (Posts (post_of a sender.number ask), for_step a (request_of a.method a.path.now) sender.number ask from.number (subst (λ (y : Asked). IsAsk a.method a.path.now a.body.now y) asked is), refl)
 
--- an arrival that asks for a step is answered by what is asked for under its number
-pub step_answers : {E : Type 0} (result : Result Response E) (s : Settings) (a : Arrival) (m : Queue) (k : Ledger) (sender : Sender) (x : Asked) (ask : Ask) (store : State)
-    → IsAsk a.method a.path.now a.body.now x → x ≡ Step ask → IsSender a sender → LeavesBy m k result store (asked_for s m k (post_of a sender.number ask)) → Answers s a m k result store
-step_answers (Ok reply) s a m k sender x ask store is asked from leaves = (asked_for s m k (post_of a sender.number ask), is_post s a m k sender x ask is asked from, leaves)
-step_answers (Err e) s a m k sender x ask store is asked from leaves = leaves
-
--- an arrival whose sender is at fault is refused so, and nothing changes
-pub sender_answers : {E : Type 0} (result : Result Response E) (s : Settings) (a : Arrival) (m : Queue) (k : Ledger) (x : Asked) (ask : Ask) (e : Refusal) (store : State)
-    → IsAsk a.method a.path.now a.body.now x → x ≡ Step ask → number_of a ≡ Err e → IfOk result (λ reply. reply ≡ refused_response e NoKeys) → Means store m k → Answers s a m k result store
-sender_answers (Ok reply) s a m k x ask e store is asked of replied rests = (
-  denied e,
-  (Faulty e, for_sender a (request_of a.method a.path.now) e ask of (subst (λ (y : Asked). IsAsk a.method a.path.now a.body.now y) asked is), refl),
-  (replied, rests),
-)
-sender_answers (Err f) s a m k x ask e store is asked of replied rests = rests
-
--- a reply that is told of an arrival leaves all as it is
-pub told_answers : {E : Type 0} (result : Result Response E) (s : Settings) (a : Arrival) (m : Queue) (k : Ledger) (store : State)
-    → IfOk result (λ reply. IsVerdict s a m k (Told reply)) → Means store m k → Answers s a m k result store
-told_answers (Ok reply) s a m k store is rests = (Told reply, is, (refl, rests))
-told_answers (Err e) s a m k store is rests = rests
+-- an arrival whose sender is at fault is refused so
+pub sender_verdict : (s : Settings) (a : Arrival) (m : Queue) (k : Ledger) (x : Asked) (ask : Ask) (e : Refusal)
+    → IsAsk a.method a.path.now a.body.now x → x ≡ Step ask → number_of a ≡ Err e → IsVerdict s a m k (denied e)
+sender_verdict s a m k x ask e is asked of =
+    (Faulty e, for_sender a (request_of a.method a.path.now) e ask of (subst (λ (y : Asked). IsAsk a.method a.path.now a.body.now y) asked is), refl)
 
 -- ---- bodies at fault
 -- what is shown has no fault

@@ -30,7 +30,7 @@ use Rattle.fax_once.specs.Stop.{AreMadeBy, AtEnd, Before, Besides, IsLeftBehind,
 use Rattle.fax_run.specs.Verdict.{Verdict, Told, Repeated, Accepted, IsVerdict, reply_of, verdict}
 use Rattle.fax_once.specs.Handled.{Answers, GivesOut, Handles, IsGivenUp, IsNotAccepted, IsUsed, Leaves, LeavesBy, SaysShut}
 use Rattle.fax_run.specs.declared.arrival.Arrival.{Arrival}
-use Rattle.fax_run.specs.Sessions.{Failed, IsSession, Nothing, Unanswered, session_of}
+use Rattle.fax_run.specs.Sessions.{AreHeard, Failed, IsSession, MayTake, Nothing, Unanswered, session_of}
 use Rattle.fax_once.specs.Ran.{LeftBySession, RunsAsSession}
 
 -- ---- an answer
@@ -182,45 +182,50 @@ failed_stop_row a old new stops found may = elim (stops found may) [
 -- ---- a crash behind a run
 
 -- behind one arrival the rows besides are those that it makes where the run began
-first_made_row : (s : Settings) (a : Arrival) (replies : List Response) (heard : List Reading) (found : Trees) → IsMadeIn s start (a ∷ []) replies heard found
-    → (v : Verdict) × IsVerdict s a start.queue start.kept v × AreMadeBy v found
-first_made_row s a replies heard found made = by made.before made.one made.told made.answered
+first_made_row : (s : Settings) (a : Arrival) (replies : List Response) (heard : List Reading) (found : Trees) (made : IsMadeIn s start (a ∷ []) replies heard found)
+    → made.batch ≡ a ∷ [] → (r : Reading) × IsReading a r × RowsFound found (end_of s start (r ∷ [])).queue (end_of s start (r ∷ [])).kept
+first_made_row s a replies heard found made is =
+    let it = made.failed in
+    let taken = subst (λ batch. AreHeard batch it.earlier made.all) is made.taken in
+    let first = begun it.before (subst (λ batch. a ∷ [] ≡ it.before ++ (batch ++ it.after)) is it.one) it.replied it.answered in (
+      taken.0,
+      taken.1,
+      subst (λ rs. RowsFound found (end_of s start rs).queue (end_of s start rs).kept) (taken.2 ∙ ap (λ past. taken.0 ∷ past) first) made.made,
+    )
   where
     none : (before behind : List Arrival) (arrival : Arrival) → [] ≡ before ++ arrival ∷ behind → ⊥
     none [] behind arrival is = cc
     none (x ∷ before) behind arrival is = cc
 
-    by : (before : List Arrival) → a ∷ [] ≡ before ++ made.arrival ∷ made.behind → (told : List Response) → IsRun s start [] before told made.earlier
-        → (v : Verdict) × IsVerdict s a start.queue start.kept v × AreMadeBy v found
-    by [] one [] answered =
-        let its : a ≡ made.arrival = cc in (
-          made.verdict,
-          subst (λ b. IsVerdict s b start.queue start.kept made.verdict) (sym its)
-              (subst (λ past. IsVerdict s made.arrival (end_of s start past).queue (end_of s start past).kept made.verdict) answered made.is),
-          made.made,
-        )
-    by [] one (reply ∷ told) answered = absurd answered
-    by (x ∷ before) one told answered = absurd (none before made.behind made.arrival cc)
+    begun : (before : List Arrival) → a ∷ [] ≡ before ++ a ∷ made.failed.after → (replied : List Response) → IsRun s start [] before replied made.failed.earlier
+        → made.failed.earlier ≡ []
+    begun [] one [] answered = answered
+    begun [] one (reply ∷ replied) answered = absurd answered
+    begun (x ∷ before) one replied answered = absurd (none before made.failed.after a cc)
 
 -- a worker's arrival behind a fax makes its rows behind it, also where a view was heard since
 made_in_row : (a b c : Arrival) (found : Trees) → IsReading a submitted → IsReading b worker
-    → AreMadeBy (comes_to (submitted ∷ []) worker) found
+    → RowsFound found (end_of settings start (worker ∷ submitted ∷ [])).queue (end_of settings start (worker ∷ submitted ∷ [])).kept
     → IsMadeIn settings start (a ∷ b ∷ c ∷ []) (accepted (Submitted 1) ∷ refused Unavailable ∷ refused NoModem ∷ []) (looks 0 ∷ submitted ∷ []) found
 made_in_row a b c found says_fax says_next made = record {
-  before = a ∷ [];
-  arrival = b;
-  behind = c ∷ [];
-  one = refl;
-  told = accepted (Submitted 1) ∷ [];
-  more = refused NoModem ∷ [];
-  answers = refl;
-  later = looks 0 ∷ [];
-  earlier = submitted ∷ [];
-  then = refl;
-  answered = inr (submitted, says_fax, refl, refl);
-  still = refl;
-  verdict = comes_to (submitted ∷ []) worker;
-  is = (worker, says_next, refl);
+  batch = b ∷ [];
+  failed = record {
+    before = a ∷ [];
+    after = c ∷ [];
+    one = refl;
+    replied = accepted (Submitted 1) ∷ [];
+    failed = refused Unavailable ∷ [];
+    more = refused NoModem ∷ [];
+    answers = refl;
+    each = (refl, tt);
+    later = looks 0 ∷ [];
+    earlier = submitted ∷ [];
+    parts = refl;
+    answered = inr (submitted, says_fax, refl, refl);
+    still = refl;
+  };
+  all = worker ∷ submitted ∷ [];
+  taken = (worker, says_next, refl);
   made = made;
 }
 
@@ -247,12 +252,19 @@ module _ (s : Settings) (from : Start) where
   -- and so do the rows
   left_row : (found : Trees) → LeftBySession s from [] [] found → RowsFound found from.queue from.kept
   left_row found (Nothing, all, (left, session, rows)) = subst (λ (e : Start). RowsFound found e.queue e.kept) (same left session) rows
-  left_row found (Unanswered a, none, gone) = absurd none
-  left_row found (Failed a, all, (left, session, rows)) = absurd (none session.leaves.0.before session.leaves.0.one)
+  left_row found (Unanswered batch, none, gone) = absurd none
+  left_row found (Failed batch, all, (left, session, rows)) =
+      let none = empty session.leaves.0.before batch session.leaves.0.after session.leaves.0.one in
+      let leads : left ≡ from = elim (subst (λ few. MayTake s from session.heard few left) none session.leaves.1) [
+        | inl lost ↦ lost ∙ ap (end_of s from) session.answered
+        | inr (others, is, taken) ↦ taken ∙ ap (end_of s from) (is ∙ session.answered)
+      ] in
+      subst (λ (e : Start). RowsFound found e.queue e.kept) leads rows
     where
-      none : (before : List Arrival) → [] ≡ before ++ a ∷ session.leaves.0.after → ⊥
-      none [] is = cc
-      none (b ∷ before) is = cc
+      empty : (before batch after : List Arrival) → [] ≡ before ++ (batch ++ after) → batch ≡ []
+      empty [] [] after is = refl
+      empty [] (b ∷ batch) after is = absurd cc
+      empty (b ∷ before) batch after is = absurd cc
 
   means_row : (old new : State) → RunsAsSession s from [] [] old new → Means new from.queue from.kept
   means_row old new run = subst (λ (e : Start). Means new e.queue e.kept) (same run.left run.session) run.means

@@ -9,52 +9,37 @@ use Rattle.fax_run.proofs.RunLemmas.{runs_thread}
 use Rattle.fax_run.specs.Laws.{left_of}
 use Rattle.fax_run.specs.Reading.{Reading}
 use Rattle.fax_run.specs.Run.{Start, IsRun, end_of}
-use Rattle.fax_run.specs.Sessions.{Failed, HasFailed, Nothing}
+use Rattle.fax_run.specs.Sessions.{AreHeard, Failed, Nothing}
 use Rattle.fax_once.specs.Ran.{LeftBySession, RunsAsSession}
-use Rattle.fax_once.specs.Stop.{AreMadeBy, AtEnd, Before, Besides, IsLeftBehind, IsMadeIn, StopsIn}
-use Rattle.fax_run.specs.Verdict.{Verdict, Told, Repeated, Accepted, verdict}
+use Rattle.fax_once.specs.Stop.{AtEnd, Before, Besides, IsLeftBehind, StopsIn}
+use Rattle.fax_run.specs.Verdict.{verdict}
 use Rattle.fax_run.specs.declared.arrival.Arrival.{Arrival}
 
--- what a verdict makes are the rows of where it leads
-rows_of : (here : Start) (v : Verdict) (found : Trees) → AreMadeBy v found → RowsFound found (left_of here v).queue (left_of here v).kept
-rows_of here (Told reply) found made = absurd made
-rows_of here (Repeated reply) found made = absurd made
-rows_of here (Accepted after kept reply) found made = made
+-- a batch that is heard behind one past leads where it leads behind another with the same end
+pub leads_on : (s : Settings) (start : Start) (batch : List Arrival) (past other all : List Reading) → end_of s start past ≡ end_of s start other → AreHeard batch past all
+    → (others : List Reading) × AreHeard batch other others × (end_of s start all ≡ end_of s start others)
+leads_on s start [] past other all same is = (other, refl, ap (end_of s start) is ∙ same)
+leads_on s start (a ∷ batch) past other all same (r, reads, more) =
+    let next : end_of s start (r ∷ past) ≡ end_of s start (r ∷ other) =
+    runs_thread s start past r ∙ ap (λ (e : Start). left_of e (verdict s e.queue e.kept r)) same ∙ sym (runs_thread s start other r) in
+    let on = leads_on s start batch (r ∷ past) (r ∷ other) all next more in
+    (on.0, (r, reads, on.1), on.2)
 
 module _ (s : Settings) (start : Start) (arrivals : List Arrival) (replies : List Response) (heard : List Reading)
     (answered : IsRun s start [] arrivals replies heard) (old : State) (found : Trees) where
-  -- an arrival that made rows was answered 503
-  failed : (it : IsMadeIn s start arrivals replies heard found) → HasFailed s start arrivals replies heard it.arrival
-  failed it = record {
-    before = it.before;
-    after = it.behind;
-    one = it.one;
-    replied = it.told;
-    more = it.more;
-    answers = it.answers;
-    later = it.later;
-    earlier = it.earlier;
-    parts = it.then;
-    answered = it.answered;
-    still = it.still;
-  }
-
   -- what is left after a run is what such a session leaves
   left_by_session : (MayFind old found → RowsFound found start.queue start.kept) → IsLeftBehind s start arrivals replies heard old found
       → LeftBySession s start arrivals replies found
   left_by_session rests (Before may none) = (Nothing, tt, (start, record { heard = heard; answered = answered; leaves = sym none }, rests may))
   left_by_session rests (AtEnd rows) = (Nothing, tt, (end_of s start heard, record { heard = heard; answered = answered; leaves = refl }, rows))
   left_by_session rests (Besides it) =
-      let r = it.is.0 in
-      let same : end_of s start (r ∷ heard) ≡ left_of (end_of s start it.earlier) it.verdict =
-      runs_thread s start heard r ∙ ap (λ (e : Start). left_of e (verdict s e.queue e.kept r)) it.still
-      ∙ ap (left_of (end_of s start it.earlier)) (sym it.is.2) in (
-        Failed it.arrival,
+      let on = leads_on s start it.batch it.failed.earlier heard it.all (sym it.failed.still) it.taken in (
+        Failed it.batch,
         tt,
         (
-          end_of s start (r ∷ heard),
-          record { heard = heard; answered = answered; leaves = (failed it, inr (r, it.is.1, refl)) },
-          subst (λ (e : Start). RowsFound found e.queue e.kept) (sym same) (rows_of (end_of s start it.earlier) it.verdict found it.made),
+          end_of s start on.0,
+          record { heard = heard; answered = answered; leaves = (it.failed, inr (on.0, on.1, refl)) },
+          subst (λ (e : Start). RowsFound found e.queue e.kept) on.2 it.made,
         ),
       )
 

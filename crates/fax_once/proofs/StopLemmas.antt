@@ -7,25 +7,18 @@ use Rattle.fax_core.specs.Ledger.{Ledger}
 use Rattle.fax_core.specs.Queue.{Queue}
 use Rattle.fax_core.specs.Reply.{NoKeys}
 use Rattle.fax_core.specs.Settings.{Settings}
-use Rattle.fax_core.specs.declared.ask.Ask.{Ask}
-use Rattle.fax_ask.specs.Ask.{IsAsk}
-use Rattle.fax_ask.specs.declared.ask.Ask.{Ask as Asked}
-use Rattle.fax_ask.specs.declared.ask.Ask.TheVariants.{Step}
 use Rattle.fax_decide.specs.Effect.{accepted}
 use Rattle.fax_store.specs.Store.{CommitsNothing, HasTables, Means, Serves}
 use Rattle.fax_store.specs.Work.{Opens, Withholds}
-use Rattle.fax_once.specs.Sender.{IsSender}
-use Rattle.fax_run.specs.Reading.{IsReading, Reading, Faulty, Sees, Posts, post_of}
+use Rattle.fax_run.specs.Reading.{IsReading, Reading, Faulty, Sees, Posts}
 use Rattle.fax_once.specs.Handled.{Leaves}
-use Rattle.fax_once.specs.Stop.{AreMadeBy, Stops, StopsAnswered, StopsBy, OnlyAcceptedMakeRows}
+use Rattle.fax_once.specs.Stop.{AreMadeBy, Stops, StopsAnswered, OnlyAcceptedMakeRows}
 use Rattle.fax_run.specs.Laws.{OneVerdict}
-use Rattle.fax_run.specs.Verdict.{Verdict, IsVerdict, asked_for, verdict, Told, Repeated, Accepted}
+use Rattle.fax_run.specs.Verdict.{Verdict, IsVerdict, verdict, Told, Repeated, Accepted}
 use Rattle.fax_run.specs.declared.arrival.Arrival.{Arrival}
-use Rattle.fax_once.specs.declared.sender.Sender.{Sender}
 use Rattle.fax_ask.specs.declared.method.Method.TheVariants.{Get}
 use Rattle.sqlite_trees.specs.Tree.{Trees}
 use Rattle.fax_once.proofs.GetLemmas.{no_post}
-use Rattle.fax_once.proofs.RequestLemmas.{is_post}
 
 -- what isn't accepted makes no rows
 pub only_accepted : OnlyAcceptedMakeRows
@@ -41,22 +34,6 @@ module _ (s0 s1 s2 s3 : State) (begun written : Bool) (opens : Opens s0 s1 begun
   -- a work that is given up
   pub dropped_stops : CommitsNothing s2 s3 → CommitsNothing s0 s3
   dropped_stops drops found may = opens.1 found ((writes (opens.0 tables)).1 found (drops found may))
-
--- and then something by a verdict, which is this one where the store serves
-pub then_stops : (a b c : State) (v w : Verdict) → CommitsNothing a b → (Serves b → Serves a) → (Serves b → v ≡ w) → StopsBy b c v → StopsBy a c w
-then_stops a b c v w first served is next found may = elim (next found may) [
-  | inl before ↦ inl (first found before)
-  | inr made ↦ inr (served made.0, subst (λ x. AreMadeBy x found) (is made.0) made.1)
-]
-
--- the verdict is that of the arrival
-pub asked_stops : (s : Settings) (a : Arrival) (m : Queue) (k : Ledger) (sender : Sender) (x : Asked) (ask : Ask) (old new : State)
-    → IsAsk a.method a.path.now a.body.now x → x ≡ Step ask → IsSender a sender → StopsBy old new (asked_for s m k (post_of a sender.number ask)) → Stops s a m k old new
-asked_stops s a m k sender x ask old new is asked from stops found may =
-    elim (stops found may) [
-      | inl before ↦ inl before
-      | inr made ↦ inr (asked_for s m k (post_of a sender.number ask), is_post s a m k sender x ask is asked from, made.1)
-    ]
 
 -- ---- an arrival that was answered
 

@@ -31,6 +31,7 @@ use Rattle.fax_decide.specs.Effect.{accepted}
 use Rattle.fax_run.specs.Reading.{post_of}
 use Rattle.fax_run.specs.Verdict.{Verdict, Told, Repeated, Accepted, asked_above, asked_for, decided_new, denied, given_by, is_too_high, new_asked, raised_ask, repeated, stepped, taken_once, without}
 use Rattle.fax_once.specs.Handled.{Handles, Leaves}
+use Rattle.fax_once.specs.Looking.{IsTold}
 use Rattle.fax_run.specs.declared.arrival.Arrival.{Arrival}
 use Rattle.fax_decide.specs.declared.effect.Effect.{Effect}
 use Rattle.fax_once.specs.declared.sender.Sender.{Sender}
@@ -72,24 +73,25 @@ idle_by s a m k reply store (inr gone) serves = (still_means store m k gone.1 se
 -- ---- repeats
 
 -- what is kept tells its entry
-repeats_as : (m : Queue) (k : Ledger) (said : List ℕ) (kept : Kept) (e : Entry) (reply : Response) (store : State) (b : Bool) → Tells kept e → Serves store → IsAtRest store m k
-    → bytes_eq kept.said.items said ≡ b → reply ≡ (if b then kept_response kept.status kept.body.items else refused_response NumberReused NoKeys) → Leaves m k reply store (repeated said e)
-repeats_as m k said kept e reply store true tells serves rests same is =
+repeats_as : (said : List ℕ) (kept : Kept) (e : Entry) (reply : Response) (store : State) (b : Bool) → Tells kept e → Serves store
+    → bytes_eq kept.said.items said ≡ b → reply ≡ (if b then kept_response kept.status kept.body.items else refused_response NumberReused NoKeys) → IsTold reply store (repeated said e)
+repeats_as said kept e reply store true tells serves same is =
     let says : bytes_eq e.said said ≡ true = ap (λ x. bytes_eq x said) (sym tells.said) ∙ same in
-    rw says (is ∙ ap (λ (x : ℕ). kept_response x kept.body.items) tells.status ∙ ap (kept_response e.status) tells.body, serves, rests)
-repeats_as m k said kept e reply store false tells serves rests same is =
+    let told : reply ≡ kept_response e.status e.body = is ∙ ap (λ (x : ℕ). kept_response x kept.body.items) tells.status ∙ ap (kept_response e.status) tells.body in
+    rw says (inr (ap Repeated (sym told), serves))
+repeats_as said kept e reply store false tells serves same is =
     let says : bytes_eq e.said said ≡ false = ap (λ x. bytes_eq x said) (sym tells.said) ∙ same in
-    rw says (is, λ _. rests)
+    rw says (inl (ap (λ (r : Response). Told r) (sym is)))
 
 -- a number above the floor with a kept reply gets it where the same is said, and is refused else
-pub repeated_leaves : (s : Settings) (a : Arrival) (m : Queue) (k : Ledger) (floor : ℕ) (sender : Sender) (ask : Ask) (kept : Kept) (e : Entry) (reply : Response) (store : State)
-    → IsSender a sender → kept_for sender.client.now sender.number k.replies ≡ Some e → Tells kept e → Serves store → IsAtRest store m k
+pub repeated_told : (s : Settings) (a : Arrival) (m : Queue) (k : Ledger) (floor : ℕ) (sender : Sender) (ask : Ask) (kept : Kept) (e : Entry) (reply : Response) (store : State)
+    → IsSender a sender → kept_for sender.client.now sender.number k.replies ≡ Some e → Tells kept e → Serves store
     → reply ≡ (if bytes_eq kept.said.items (said_of a) then kept_response kept.status kept.body.items else refused_response NumberReused NoKeys)
-    → Leaves m k reply store (asked_above s m k floor (post_of a sender.number ask))
-repeated_leaves s a m k floor sender ask kept e reply store from found tells serves rests is =
+    → IsTold reply store (asked_above s m k floor (post_of a sender.number ask))
+repeated_told s a m k floor sender ask kept e reply store from found tells serves is =
     let here : kept_for a.client.now sender.number k.replies ≡ Some e = ap (λ client. kept_for client sender.number k.replies) (sym from.client) ∙ found in
-    subst (λ o. Leaves m k reply store (taken_once o (said_of a) (new_asked s m k floor (post_of a sender.number ask)))) (sym here)
-    (repeats_as m k (said_of a) kept e reply store (bytes_eq kept.said.items (said_of a)) tells serves rests refl is)
+    subst (λ o. IsTold reply store (taken_once o (said_of a) (new_asked s m k floor (post_of a sender.number ask)))) (sym here)
+    (repeats_as (said_of a) kept e reply store (bytes_eq kept.said.items (said_of a)) tells serves refl is)
 
 -- one without a kept reply is new
 pub unused_is : (s : Settings) (a : Arrival) (m : Queue) (k : Ledger) (floor : ℕ) (sender : Sender) (ask : Ask) → IsSender a sender → kept_for sender.client.now sender.number k.replies ≡ None

@@ -34,7 +34,7 @@ use Rattle.fax_run.specs.Verdict as verdict
 use Rattle.fax_run.specs.declared.arrival.Arrival.{Arrival}
 use Rattle.fax_once.specs.Sender.{AsksStep}
 use Rattle.fax_once.specs.declared.acceptance.Answered.{Answered}
-use Rattle.fax_once.specs.declared.acceptance.Answered.TheVariants.{Refused, Accepted}
+use Rattle.fax_once.specs.declared.acceptance.Answered.TheVariants.{Unchanged, Accepted}
 use Rattle.fax_once.specs.declared.acceptance.Change.{Change}
 use Rattle.fax_once.specs.declared.acceptance.Decided.{Decided}
 use Rattle.fax_once.specs.declared.sender.Sender.{Sender}
@@ -50,12 +50,12 @@ IsAcceptable t change sender reply m k =
 
 -- the verdict refuses with this reply, or accepts with it
 abbrev pub IsBy : Answered → Verdict → Type 0
-IsBy (Refused reply) v = v ≡ Told reply
+IsBy (Unchanged reply) v = v ≡ Told reply
 IsBy (Accepted reply) v = (after : Queue) × (kept : Ledger) × (v ≡ verdict.Accepted after kept reply)
 
 -- the reply to what is accepted may be kept
 abbrev pub MayBeKept : Answered → Type 0
-MayBeKept (Refused reply) = ⊤
+MayBeKept (Unchanged reply) = ⊤
 MayBeKept (Accepted reply) = IsKeptStatus reply.status
 
 -- where a verdict leads
@@ -76,6 +76,7 @@ module _ {S : Type 0} (g : Ghosts S) where
   -- The same within a work, which goes on as it was, or can't be committed.
   pub record DecidesWithin (old new : Work S) (result : Result Decided Fault) (s : Settings) (ask : Step) (moment : ℕ) : Type 0 where
     pub leaves : Follows g old new
+    pub goes_on : OnOk result (new.failed ≡ false)
     pub keeps : Keeps (within g old) old.failed (within g new) new.failed
     pub opens : OnOk result (IsActive (within g old) old.failed → HasCleanDisk (within g new) → Serves (within g new))
     pub decided : (m₀ m : Queue) (k₀ k : Ledger) → Sound m → Works (within g old) old.failed m₀ k₀ m k → Serves (within g new) → IsRead ask
@@ -111,6 +112,7 @@ module _ {S : Type 0} (g : Ghosts S) where
   pub record AnswersWithin (old new : Work S) (result : Result Answered Fault) (s : Settings) (a : Arrival) (sender : Sender) (ask : Step) (floor : ℕ) : Type 0 where
     -- Nothing is committed, and the work goes on over the same store.
     pub leaves : Follows g old new
+    pub goes_on : OnOk result (new.failed ≡ false)
     -- Where there is an answer, the store of a work that is under way serves as long as the disk is clean.
     pub opens : OnOk result (IsActive (within g old) old.failed → HasCleanDisk (within g new) → Serves (within g new))
     pub kept : IfOk result MayBeKept

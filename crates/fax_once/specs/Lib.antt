@@ -3,5 +3,7 @@ pub mod Sender
 pub mod Handled
 pub mod Stop
 pub mod Ran
+pub mod Looking
 pub mod Queue
 pub mod Acceptance
+pub mod Batch

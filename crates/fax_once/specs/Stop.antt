@@ -1,5 +1,5 @@
 -- What a crash may leave behind an arrival.
-use Rattle.std.specs.Prelude.{◌≡◌, ◌⊎◌, Bool, true, false, List, [], ◌∷◌, ◌++◌}
+use Rattle.std.specs.Prelude.{◌≡◌, ◌⊎◌, Bool, true, false, List}
 use Rattle.sqlite.specs.State.{State}
 use Rattle.sqlite_trees.specs.Tree.{Trees}
 use Rattle.fax_job.specs.declared.refusal.Refusal.TheVariants.{Unavailable}
@@ -11,7 +11,8 @@ use Rattle.fax_ask.specs.Response.{Response, refused_response}
 use Rattle.fax_store.specs.Store.{MayFind, MayMake, RowsFound, Serves}
 use Rattle.fax_once.specs.Ran.{HasRun}
 use Rattle.fax_run.specs.Reading.{Reading}
-use Rattle.fax_run.specs.Run.{IsRun, Start, end_of}
+use Rattle.fax_run.specs.Run.{Start, end_of}
+use Rattle.fax_run.specs.Sessions.{AreHeard, HasFailed}
 use Rattle.fax_run.specs.Verdict.{Verdict, Told, Repeated, Accepted, IsVerdict}
 use Rattle.fax_run.specs.declared.arrival.Arrival.{Arrival}
 
@@ -43,23 +44,13 @@ abbrev pub StopsAnswered : Settings → Arrival → Queue → Ledger → Respons
 StopsAnswered s a m k reply old new =
     MayMake old new (λ found. (v : Verdict) × IsVerdict s a m k v × AreMadeBy v found × ((new.is_open ≡ true) ⊎ (reply ≡ refused_response Unavailable NoKeys)))
 
--- These are the rows that one of the arrivals makes, by its verdict after what was heard of those before it, by their replies. It was answered 503, and nothing was taken since.
+-- These are the rows of where a batch of the arrivals leads, all of it heard. Each of it was answered 503, and nothing was taken since.
 pub record IsMadeIn (s : Settings) (start : Start) (arrivals : List Arrival) (replies : List Response) (heard : List Reading) (found : Trees) : Type 0 where
-  pub before : List Arrival
-  pub arrival : Arrival
-  pub behind : List Arrival
-  pub one : arrivals ≡ before ++ arrival ∷ behind
-  pub told : List Response
-  pub more : List Response
-  pub answers : replies ≡ told ++ refused_response Unavailable NoKeys ∷ more
-  pub later : List Reading
-  pub earlier : List Reading
-  pub then : heard ≡ later ++ earlier
-  pub answered : IsRun s start [] before told earlier
-  pub still : end_of s start heard ≡ end_of s start earlier
-  pub verdict : Verdict
-  pub is : IsVerdict s arrival (end_of s start earlier).queue (end_of s start earlier).kept verdict
-  pub made : AreMadeBy verdict found
+  pub batch : List Arrival
+  pub failed : HasFailed s start arrivals replies heard batch
+  pub all : List Reading
+  pub taken : AreHeard batch failed.earlier all
+  pub made : RowsFound found (end_of s start all).queue (end_of s start all).kept
 
 -- what a crash behind a run may leave
 pub data IsLeftBehind (s : Settings) (start : Start) (arrivals : List Arrival) (replies : List Response) (heard : List Reading) (old : State)
@@ -68,7 +59,7 @@ pub data IsLeftBehind (s : Settings) (start : Start) (arrivals : List Arrival) (
   Before : MayFind old found → end_of s start heard ≡ start → IsLeftBehind s start arrivals replies heard old found
   -- the rows of where it leads
   AtEnd : RowsFound found (end_of s start heard).queue (end_of s start heard).kept → IsLeftBehind s start arrivals replies heard old found
-  -- or those that one of its arrivals makes besides
+  -- or those that a batch of its arrivals makes besides
   Besides : IsMadeIn s start arrivals replies heard found → IsLeftBehind s start arrivals replies heard old found
 
 -- A run is done, and a crash behind it leaves such rows.

@@ -26,8 +26,8 @@ use std::alloc::Global;
 /// The reply to a request whose number is new.
 #[derive(Drop)]
 pub(crate) enum Answered {
-    /// It is refused, and changes nothing.
-    Refused(Reply),
+    /// Nothing changes.
+    Unchanged(Reply),
     /// It is accepted. What it changes is written, and so is this reply, which is kept.
     Accepted(Reply),
 }
@@ -69,7 +69,7 @@ pub(crate) fn answer_new<S: Alter>(
         sender.now ask floor }
 {
     let Some(ask) = raised(ask, sender.number, floor) else {
-        return Ok(Answered::Refused(Reply::refused(Refusal::FloorHigh)));
+        return Ok(Answered::Unchanged(Reply::refused(Refusal::FloorHigh)));
     };
     let given = given_by(&ask);
     let Decided { t, decision } = decide_within(work, office, alloc, ask, arrival.moment)?;
@@ -78,7 +78,7 @@ pub(crate) fn answer_new<S: Alter>(
             let change = Change { effect, given };
             accept(work, alloc, arrival, sender, t, &change, reply)
         }
-        Decision::Refused(reply) => Ok(Answered::Refused(reply)),
+        Decision::Refused(reply) => Ok(Answered::Unchanged(reply)),
     }
 }
 
@@ -94,8 +94,11 @@ fn decide_within<S: Alter>(
     ensures { DecidesWithin S.Store work.old work.new result (settings_of office.now.setup office.now.controls) ask moment }
 {
     let decided = decide_now(work.store, office, alloc, ask, moment);
-    work.check();
-    decided
+    if work.check() {
+        decided
+    } else {
+        Err(Fault::NoAnswer)
+    }
 }
 
 /// Decides a request at the later of a moment and the clock, by the tables as they stand now.

@@ -3,8 +3,10 @@
 
 mod acceptance;
 mod arrival;
+mod batch;
 mod floor;
 pub mod laws;
+mod looking;
 mod queue;
 mod refusing;
 mod sender;

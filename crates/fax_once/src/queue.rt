@@ -4,11 +4,10 @@
 //! bytes are made before its commit. A refused request changes nothing, and neither does a repeat of an
 //! accepted one, which gets the kept reply.
 
-ghost use Rattle.std.specs.Prelude.{◌≡◌, ◌<◌, ◌^◌, false, IfOk, IsTrue, OnErr, if◌then◌else◌};
-ghost use Rattle.std.specs.Str.{bytes_eq};
+ghost use Rattle.std.specs.Prelude.{◌≡◌, ◌<◌, ◌^◌, false, IfOk, IsTrue, OnErr};
 ghost use Rattle.sqlite.specs.Effect.{Database};
 ghost use Rattle.sqlite.specs.State.{HasCleanDisk};
-ghost use Rattle.fax_ask.specs.Response.{kept_response, refused_response};
+ghost use Rattle.fax_ask.specs.Response.{refused_response};
 ghost use Rattle.fax_ask.specs.declared.method.Method.TheVariants.{Get};
 ghost use Rattle.fax_core.specs.Reply.{NoKeys};
 ghost use Rattle.fax_store.specs.Store.{CommitsNothing, LeavesAlone, Rests, Serves, Stays};
@@ -17,23 +16,24 @@ ghost use Rattle.fax_core.specs.Ledger.{IsKeptStatus};
 ghost use Rattle.fax_once.specs.Handled.{IsSoundWith, Answers, Handles, IsGivenUp, IsUsed, SaysShut};
 ghost use Rattle.fax_once.specs.Ran.{RunsWell, RunsAsSession};
 ghost use Rattle.fax_decide.specs.Fault.{OnlyNoAnswer};
-ghost use Rattle.fax_run.specs.Arrival.{said_of};
-ghost use Rattle.fax_once.specs.Queue.{AnswersAsk, AnswersNew, AnswersStep, From, Replies, Shows, settings, tables};
+ghost use Rattle.fax_once.specs.Batch.{replies_to};
+ghost use Rattle.fax_once.specs.Queue.{AnswersNew, ClosedWhereShut, From, Replies, settings, tables};
 ghost use Rattle.fax_once.specs.Stop.{Stops, StopsAnswered, StopsIn};
 ghost use Rattle.fax_run.specs.declared.arrival.Arrival.{Arrival as ArrivalOf};
 
 use crate::acceptance::{Answered, answer_new};
-use crate::arrival::{get, says};
+use crate::arrival::get;
+use crate::batch::{Batch, answer_together};
 use crate::laws::{no_verdict_is_unavailable, one_verdict};
-use crate::refusing::refuse_ask;
+use crate::looking::{Looked, NewRequest, look_up};
 use crate::sender::Sender;
-use fax_ask::{Ask, Reply, Routes, View};
+use fax_ask::{Reply, Routes};
 use fax_core::Ask as Step;
-use fax_decide::{Fault, Office, show};
+use fax_decide::{Fault, Office};
 use fax_dest::{Controls, Setup};
 use fax_job::{Moment, Refusal};
 use fax_run::Arrival;
-use fax_store::{Kept, Store};
+use fax_store::Store;
 use sqlite::{Alter, Connection};
 use std::alloc::{AllocError, Global};
 
@@ -183,6 +183,7 @@ impl<S: Alter> Queue<S> {
             → IfOk result (λ replies. StopsIn (settings self.old)
             (record { queue = m; kept = k }) arrivals.now replies.items (tables S.Store self.old)
             (tables S.Store self.new))) }
+        ensures shut { ClosedWhereShut S.Store self.old → ClosedWhereShut S.Store self.new }
         // So it is one of the sessions of which `laws::sessions` tells, also where it was broken off.
         ensures session { From S.Store self.old (λ m k. HasCleanDisk (tables S.Store self.new)
             → IfOk result (λ replies. RunsAsSession (settings self.old)
@@ -195,6 +196,47 @@ impl<S: Alter> Queue<S> {
             replies.push(reply).unwrap();
         }
         Ok(replies)
+    }
+
+    /// Answers the arrivals of a batch one after the other, as [`Queue::run`] does, and commits what they change together:
+    /// all of it is kept, or nothing. Where one of them has no answer, each is handled by itself.
+    ///
+    /// # Errors
+    ///
+    /// [`Fault::NoAnswer`]: there is no memory for the replies, or what the batch changes couldn't be committed. Then each
+    /// arrival is to be answered 503.
+    pub fn batch(&mut self, alloc: Global, arrivals: &[Arrival<'_>]) -> Result<Vec<Reply>, Fault>
+        ensures office { self.new.office ≡ self.old.office }
+        ensures clean { HasCleanDisk (tables S.Store self.new) → HasCleanDisk (tables S.Store self.old) }
+        ensures ran { From S.Store self.old (λ m k. HasCleanDisk (tables S.Store self.new)
+            → RunsWell (settings self.old) (record { queue = m; kept = k }) arrivals.now (replies_to arrivals.now result)
+            (tables S.Store self.new)) }
+        ensures crash { From S.Store self.old (λ m k. HasCleanDisk (tables S.Store self.new)
+            → StopsIn (settings self.old) (record { queue = m; kept = k }) arrivals.now (replies_to arrivals.now result)
+            (tables S.Store self.old) (tables S.Store self.new)) }
+        // While the store is open a crash leaves the last commit alone.
+        ensures alone { Serves (tables S.Store self.new)
+            → LeavesAlone (tables S.Store self.new) (tables S.Store self.new).committed.trees }
+        ensures shut { ClosedWhereShut S.Store self.new }
+    {
+        let answered = answer_together(
+            &mut self.store,
+            &self.office,
+            &self.routes,
+            alloc,
+            arrivals,
+        );
+        self.is_shut = false;
+        let Ok(batch) = answered else {
+            return Ok(self.run(alloc, arrivals)?);
+        };
+        match batch {
+            Batch::Done(replies) => Ok(replies),
+            Batch::Failed => {
+                self.is_shut = self.store.is_shut() == Ok(true);
+                Err(Fault::NoAnswer)
+            }
+        }
     }
 
     /// Answers the request, as [`Queue::handle`] does, or says why there is no answer but 27.
@@ -218,54 +260,11 @@ impl<S: Alter> Queue<S> {
         ensures cause { From S.Store self.old (λ m k. Serves (tables S.Store self.new)
             → OnlyNoAnswer result) }
     {
-        let asked = self
-            .routes
-            .read_ask(alloc, arrival.method, arrival.path, arrival.body);
-        match asked {
-            Ok(ask) => self.answer_ask(alloc, arrival, ask),
-            Err(refusal) => refuse_ask(alloc, arrival, refusal),
-        }
-    }
-
-    fn answer_ask(&mut self, alloc: Global, arrival: &Arrival<'_>, ask: Ask) -> Result<Reply, Fault>
-        ensures { AnswersAsk S.Store self.old self.new result arrival.now ask }
-    {
-        match ask {
-            Ask::View(asked) => self.show(alloc, asked, arrival.moment),
-            Ask::Step(ask) => match Sender::of(arrival) {
-                Ok(sender) => self.step(alloc, arrival, &sender, ask),
-                Err(refusal) => Ok(Reply::refused(refusal)),
-            },
-        }
-    }
-
-    /// Shows what a client asks to see, at the later of that moment and the clock. Nothing changes.
-    fn show(&mut self, alloc: Global, asked: View, moment: Moment) -> Result<Reply, Fault>
-        ensures { Shows S.Store self.old self.new result asked moment }
-    {
-        let meta = self.store.meta()?;
-        let t = meta.clock.later(moment);
-        show(&mut self.store, &self.office, alloc, asked, t)
-    }
-
-    /// Answers a request whose number has a kept reply, and decides one whose number is new. A number through the floor
-    /// of its client is refused.
-    fn step(
-        &mut self,
-        alloc: Global,
-        arrival: &Arrival<'_>,
-        sender: &Sender<'_>,
-        ask: Step,
-    ) -> Result<Reply, Fault>
-        ensures { AnswersStep S.Store self.old self.new result arrival.now sender.now ask }
-    {
-        let floor = self.store.floor(sender.client)?;
-        if sender.number.get() <= floor {
-            return Ok(Reply::refused(Refusal::GivenUp));
-        }
-        match self.store.kept(sender.client, sender.number)? {
-            Some(kept) => Ok(repeat(arrival, kept)),
-            None => self.step_once(alloc, arrival, sender, ask, floor),
+        match look_up(&mut self.store, &self.office, &self.routes, alloc, arrival)? {
+            Looked::Known(reply) => Ok(reply),
+            Looked::New(NewRequest { sender, ask, floor }) => {
+                self.step_once(alloc, arrival, &sender, ask, floor)
+            }
         }
     }
 
@@ -283,25 +282,11 @@ impl<S: Alter> Queue<S> {
     {
         let mut work = self.store.begin()?;
         match answer_new(&mut work, &self.office, alloc, arrival, sender, ask, floor)? {
-            Answered::Refused(reply) => Ok(reply),
+            Answered::Unchanged(reply) => Ok(reply),
             Answered::Accepted(reply) => {
                 work.commit()?;
                 Ok(reply)
             }
         }
-    }
-}
-
-/// The reply to a request whose number has a kept reply: that reply where the client says the same bytes, and a
-/// refusal else. It takes no memory.
-fn repeat(arrival: &Arrival<'_>, kept: Kept) -> Reply
-    requires { IsKeptStatus kept.status }
-    ensures { result ≡ (if bytes_eq kept.said.items
-        (said_of arrival.now) then kept_response kept.status kept.body.items else refused_response Refusal.NumberReused NoKeys) }
-{
-    if says(arrival, &kept.said) {
-        Reply::kept(kept.status, kept.body)
-    } else {
-        Reply::refused(Refusal::NumberReused)
     }
 }

@@ -55,14 +55,14 @@ no_session_row first last all = all.left ∙ ap (end_after first) all.added
 -- what came in a session may be fed by its setup, where the reply to its step was replied to it, or where it was under way at the end
 came_row : (a b : Arrival) (reply : Response) → IsReading a (Posts its_post) → let own = accepted (Submitted 1) in
     CameIn start (session_of settings (a ∷ []) (own ∷ []) Nothing) its_fed []
-    × CameIn start (session_of settings (b ∷ a ∷ []) (reply ∷ own ∷ []) (Failed b)) its_fed []
-    × CameIn start (session_of settings (b ∷ []) (reply ∷ []) (Unanswered a)) its_fed []
-    × CameIn start (session_of settings (a ∷ []) (reply ∷ []) (Failed a)) its_fed []
+    × CameIn start (session_of settings (b ∷ a ∷ []) (reply ∷ own ∷ []) (Failed (b ∷ []))) its_fed []
+    × CameIn start (session_of settings (b ∷ []) (reply ∷ []) (Unanswered (a ∷ []))) its_fed []
+    × CameIn start (session_of settings (a ∷ []) (reply ∷ []) (Failed (b ∷ a ∷ []))) its_fed []
 came_row a b reply says = (
   record { arrival = a; posts = says; settings = refl; answered = inl (inl (refl, refl)) },
   record { arrival = a; posts = says; settings = refl; answered = inl (inr (inl (refl, refl))) },
-  record { arrival = a; posts = says; settings = refl; answered = inr refl },
-  record { arrival = a; posts = says; settings = refl; answered = inr refl },
+  record { arrival = a; posts = says; settings = refl; answered = inr (inl refl) },
+  record { arrival = a; posts = says; settings = refl; answered = inr (inr (inl refl)) },
 )
 
 -- What was refused there isn't in the list, where nothing was under way: what is in it was answered as its step is where it stands.
@@ -90,8 +90,14 @@ broken_row : (a : Arrival) (f : Fed) → Adds start (broken a) (f ∷ []) [] →
 broken_row a f ([], is, each) = absurd cc
 broken_row a f (g ∷ own, is, (came, each)) =
     let same : g ≡ f = cc in
-    subst (λ (x : Fed). (x.settings ≡ settings) × IsReading a (Posts x.post)) same
-    (came.settings, elim came.answered [ inl here ↦ absurd here | inr was ↦ subst (λ b. IsReading b (Posts g.post)) (sym was) came.posts ])
+    subst (λ (x : Fed). (x.settings ≡ settings) × IsReading a (Posts x.post)) same (
+      came.settings,
+      elim came.answered [
+        | inl here ↦ absurd here
+        | inr (inl was) ↦ subst (λ b. IsReading b (Posts g.post)) was came.posts
+        | inr (inr none) ↦ absurd none
+      ],
+    )
 
 -- each of two that came in turn came after those before it
 in_turn_row : (x : Session) (f g : Fed) (before : List Fed) → CameInTurn start x (g ∷ f ∷ []) before → CameIn start x g (f ∷ before) × CameIn start x f before

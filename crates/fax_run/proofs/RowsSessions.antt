@@ -10,7 +10,8 @@ use Rattle.fax_run.proofs.RowsRuns.{accepted, desk, fax, lab, post, refused, sta
 use Rattle.fax_run.specs.Reading.{IsReading, Reading}
 use Rattle.fax_ask.specs.Response.{Response}
 use Rattle.fax_run.specs.Run.{IsRun, Start, end_after, end_of, taken}
-use Rattle.fax_run.specs.Sessions.{AllAnswered, Failed, Follow, HasFailed, IsSession, LeavesOff, Nothing, Session, Unanswered, session_of}
+use Rattle.std.specs.List.{AllZip}
+use Rattle.fax_run.specs.Sessions.{AllAnswered, Failed, Follow, HasFailed, IsSession, LeavesOff, MayTake, Nothing, Session, Unanswered, session_of}
 use Rattle.fax_run.specs.declared.arrival.Arrival.{Arrival}
 
 -- ---- words
@@ -64,19 +65,22 @@ one_list_row = refl
 -- ---- a session that was broken off, with the fax under way
 
 abbrev pub broken : Arrival → Session
-broken a = session_of settings [] [] (Unanswered a)
+broken a = session_of settings [] [] (Unanswered (a ∷ []))
 
 -- it leaves the one or the other, and nothing else
 one_of_two_row : (a : Arrival) (left : Start) → IsSession start (broken a) left
     → (left ≡ start) ⊎ ((r : Reading) × IsReading a r × (left ≡ end_of settings start (r ∷ [])))
-one_of_two_row a left session = subst (λ heard. LeavesOff start (broken a) heard (Unanswered a) left) session.answered session.leaves
+one_of_two_row a left session = elim (subst (λ heard. LeavesOff start (broken a) heard (Unanswered (a ∷ [])) left) session.answered session.leaves) [
+  | inl lost ↦ inl lost
+  | inr (all, (r, reads, is), leads) ↦ inr (r, reads, subst (λ rs. left ≡ end_of settings start rs) is leads)
+]
 
 -- it was taken, and the same again gets its reply, by the other setup
 taken_row : (a b : Arrival) → IsReading a submitted → IsReading b again
     → Follow start (session_of other (b ∷ []) (accepted (Submitted 1) ∷ []) Nothing ∷ broken a ∷ []) (end_of other day (again ∷ []))
 taken_row a b says_fax says_again = (
   day,
-  (start, refl, record { heard = []; answered = refl; leaves = inr (submitted, says_fax, refl) }),
+  (start, refl, record { heard = []; answered = refl; leaves = inr (submitted ∷ [], (submitted, says_fax, refl), refl) }),
   record { heard = again ∷ []; answered = inr (again, says_again, refl, refl); leaves = refl },
 )
 
@@ -105,14 +109,14 @@ no_session_row first last follow = follow
 
 -- what was under way was heard behind what was answered
 under_way_row : (a b : Arrival) → IsReading a submitted → IsReading b worker
-    → IsSession start (session_of settings (a ∷ []) (accepted (Submitted 1) ∷ []) (Unanswered b)) (end_of settings start (worker ∷ submitted ∷ []))
-under_way_row a b says_fax says_next = record { heard = submitted ∷ []; answered = inr (submitted, says_fax, refl, refl); leaves = inr (worker, says_next, refl) }
+    → IsSession start (session_of settings (a ∷ []) (accepted (Submitted 1) ∷ []) (Unanswered (b ∷ []))) (end_of settings start (worker ∷ submitted ∷ []))
+under_way_row a b says_fax says_next = record { heard = submitted ∷ []; answered = inr (submitted, says_fax, refl, refl); leaves = inr (worker ∷ submitted ∷ [], (worker, says_next, refl), refl) }
 
 -- ---- one that was answered 503
 
 -- it was taken after what was answered before it, where a refused request was heard since
 failed_row : (a b c : Arrival) → IsReading a submitted → IsReading b worker → IsReading c unknown_modem
-    → IsSession start (session_of settings (a ∷ b ∷ c ∷ []) (accepted (Submitted 1) ∷ refused Unavailable ∷ refused NoModem ∷ []) (Failed b))
+    → IsSession start (session_of settings (a ∷ b ∷ c ∷ []) (accepted (Submitted 1) ∷ refused Unavailable ∷ refused NoModem ∷ []) (Failed (b ∷ [])))
     (end_of settings start (worker ∷ unknown_modem ∷ submitted ∷ []))
 failed_row a b c says_fax says_next says_other = record {
   heard = unknown_modem ∷ submitted ∷ [];
@@ -123,47 +127,85 @@ failed_row a b c says_fax says_next says_other = record {
       after = c ∷ [];
       one = refl;
       replied = accepted (Submitted 1) ∷ [];
+      failed = refused Unavailable ∷ [];
       more = refused NoModem ∷ [];
       answers = refl;
+      each = (refl, tt);
       later = unknown_modem ∷ [];
       earlier = submitted ∷ [];
       parts = refl;
       answered = inr (submitted, says_fax, refl, refl);
       still = refl;
     },
-    inr (worker, says_next, refl),
+    inr (worker ∷ unknown_modem ∷ submitted ∷ [], (worker, says_next, refl), refl),
   );
 }
 
--- where one came, it was that one, it was answered 503, and nothing was taken
-only_failed_row : (s : Settings) (from : Start) (a b : Arrival) (reply : Response) (heard : List Reading) → HasFailed s from (a ∷ []) (reply ∷ []) heard b
-    → (a ≡ b) × (reply ≡ refused Unavailable) × (end_of s from heard ≡ from)
-only_failed_row s from a b reply heard failed = by failed.before failed.one failed.replied failed.answers failed.answered
-  where
-    none : {X : Type 0} (xs ys : List X) (x : X) → [] ≡ xs ++ x ∷ ys → ⊥
-    none [] ys x is = cc
-    none (y ∷ xs) ys x is = cc
+-- an empty list has no item in it
+none : {X : Type 0} (xs ys : List X) (x : X) → [] ≡ xs ++ x ∷ ys → ⊥
+none [] ys x is = cc
+none (y ∷ xs) ys x is = cc
 
-    by : (before : List Arrival) → a ∷ [] ≡ before ++ b ∷ failed.after → (replied : List Response) → reply ∷ [] ≡ replied ++ refused Unavailable ∷ failed.more
-        → IsRun s from [] before replied failed.earlier → (a ≡ b) × (reply ≡ refused Unavailable) × (end_of s from heard ≡ from)
-    by [] one [] answers answered = (cc, cc, failed.still ∙ ap (end_of s from) answered)
-    by [] one (other ∷ replied) answers answered = absurd answered
-    by (c ∷ before) one replied answers answered = absurd (none before failed.after b cc)
+-- each reply of a batch says 503
+abbrev AreRefused : List Arrival → List Response → Type 0
+AreRefused batch replies = AllZip (λ (a : Arrival) reply. reply ≡ refused Unavailable) batch replies
+
+-- where one came, it was that one, it was answered 503, and nothing was taken
+only_failed_row : (s : Settings) (from : Start) (a b : Arrival) (reply : Response) (heard : List Reading) → HasFailed s from (a ∷ []) (reply ∷ []) heard (b ∷ [])
+    → (a ≡ b) × (reply ≡ refused Unavailable) × (end_of s from heard ≡ from)
+only_failed_row s from a b reply heard it = by it.before it.one it.replied it.failed it.answers it.each it.answered
+  where
+    by : (before : List Arrival) → a ∷ [] ≡ before ++ b ∷ it.after → (replied failed : List Response) → reply ∷ [] ≡ replied ++ (failed ++ it.more)
+        → AreRefused (b ∷ []) failed → IsRun s from [] before replied it.earlier → (a ≡ b) × (reply ≡ refused Unavailable) × (end_of s from heard ≡ from)
+    by [] one [] [] answers each answered = absurd each
+    by [] one [] (x ∷ []) answers (is, nothing) answered =
+        let same : reply ≡ x = cc in
+        (cc, same ∙ is, it.still ∙ ap (end_of s from) answered)
+    by [] one [] (x ∷ y ∷ failed) answers (is, more) answered = absurd more
+    by [] one (other ∷ replied) failed answers each answered = absurd answered
+    by (c ∷ before) one replied failed answers each answered = absurd (none before it.after b cc)
+
+-- where two came and both were under way, each of them was
+both_failed_row : (s : Settings) (from : Start) (a b : Arrival) (reply second : Response) (heard : List Reading)
+    → HasFailed s from (a ∷ b ∷ []) (reply ∷ second ∷ []) heard (a ∷ b ∷ []) → (reply ≡ refused Unavailable) × (second ≡ refused Unavailable) × (end_of s from heard ≡ from)
+both_failed_row s from a b reply second heard it = by it.before it.one it.replied it.failed it.answers it.each it.answered
+  where
+    by : (before : List Arrival) → a ∷ b ∷ [] ≡ before ++ a ∷ b ∷ it.after → (replied failed : List Response) → reply ∷ second ∷ [] ≡ replied ++ (failed ++ it.more)
+        → AreRefused (a ∷ b ∷ []) failed → IsRun s from [] before replied it.earlier
+        → (reply ≡ refused Unavailable) × (second ≡ refused Unavailable) × (end_of s from heard ≡ from)
+    by [] one [] [] answers each answered = absurd each
+    by [] one [] (x ∷ []) answers (is, more) answered = absurd more
+    by [] one [] (x ∷ y ∷ []) answers (is, (too, nothing)) answered =
+        let same : reply ≡ x = cc in
+        let after : second ≡ y = cc in
+        (same ∙ is, after ∙ too, it.still ∙ ap (end_of s from) answered)
+    by [] one [] (x ∷ y ∷ z ∷ failed) answers (is, (too, more)) answered = absurd more
+    by [] one (said ∷ replied) failed answers each answered = absurd answered
+    by (c ∷ []) one replied failed answers each answered = absurd (none [] it.after b cc)
+    by (c ∷ d ∷ before) one replied failed answers each answered = absurd (none before (b ∷ it.after) a cc)
+
+-- a batch of two that wasn't answered leaves both or neither
+both_row : (a b : Arrival) (left : Start) → IsSession start (session_of settings [] [] (Unanswered (a ∷ b ∷ []))) left
+    → (left ≡ start) ⊎ ((r q : Reading) × IsReading a r × IsReading b q × (left ≡ end_of settings start (q ∷ r ∷ [])))
+both_row a b left session = elim (subst (λ heard. MayTake settings start heard (a ∷ b ∷ []) left) session.answered session.leaves) [
+  | inl lost ↦ inl lost
+  | inr (all, (r, reads, (q, too, is)), leads) ↦ inr (r, q, reads, too, subst (λ rs. left ≡ end_of settings start rs) is leads)
+]
 
 -- so what was refused wasn't under way
-refused_row : (a : Arrival) (left : Start) → ¬ IsSession start (session_of settings (a ∷ []) (refused NoModem ∷ []) (Failed a)) left
+refused_row : (a : Arrival) (left : Start) → ¬ IsSession start (session_of settings (a ∷ []) (refused NoModem ∷ []) (Failed (a ∷ []))) left
 refused_row a left session = by (only_failed_row settings start a a (refused NoModem) session.heard session.leaves.0).1
   where
     by : refused NoModem ≡ refused Unavailable → ⊥
     by is = omega (arith, ap (λ (r : Response). r.status) is)
 
 -- nor was what was taken
-done_row : (a : Arrival) (left : Start) → ¬ IsSession start (session_of settings (a ∷ []) (accepted (Submitted 1) ∷ []) (Failed a)) left
+done_row : (a : Arrival) (left : Start) → ¬ IsSession start (session_of settings (a ∷ []) (accepted (Submitted 1) ∷ []) (Failed (a ∷ []))) left
 done_row a left session = by (only_failed_row settings start a a (accepted (Submitted 1)) session.heard session.leaves.0).1
   where
     by : accepted (Submitted 1) ≡ refused Unavailable → ⊥
     by is = omega (arith, ap (λ (r : Response). r.status) is)
 
 -- whatever came was answered where nothing was under way, or one that failed
-all_answered_row : (a : Arrival) → AllAnswered Nothing × AllAnswered (Failed a) × ¬ AllAnswered (Unanswered a)
+all_answered_row : (a : Arrival) → AllAnswered Nothing × AllAnswered (Failed (a ∷ [])) × ¬ AllAnswered (Unanswered (a ∷ []))
 all_answered_row a = (tt, tt, λ none. none)

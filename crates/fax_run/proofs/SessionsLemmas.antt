@@ -3,6 +3,7 @@ use Rattle.std.proofs.Common.{◌≡◌, ◌⊎◌, inl, inr, eqb, Bool, true, f
 use Rattle.std.specs.Prelude.{is_none}
 use Rattle.std.specs.List.{AllByRecursion, AllZip, list_any}
 use Rattle.std.specs.Str.{bytes_eq}
+use Rattle.sqlite_rules.specs.Lists.{Has}
 use Rattle.std.specs.Cmp.Lexicographic.{bytes_decides}
 use Rattle.std.proofs.lemmas.Bool.{and_from, and_parts, cases_Bool, eqb-true, not-true}
 use Rattle.fax_job.specs.declared.refusal.Refusal.TheVariants.{FloorHigh, GivenUp, NumberReused, Unavailable}
@@ -21,7 +22,7 @@ use Rattle.fax_run.proofs.RunLemmas.{is_free, raised_step}
 use Rattle.fax_run.specs.Laws.{AreAccepted}
 use Rattle.fax_run.specs.Reading.{Post, Reading, Faulty, Sees, Posts, IsReading}
 use Rattle.fax_run.specs.Run.{Fed, Start, IsRun, end_after, end_of, floors_after, is_new, is_of, is_taken, kept_after, queue_after, reply_to, takes, under, with_taken}
-use Rattle.fax_run.specs.Sessions.{Adds, AreAdded, CameIn, CameInTurn, EachOnce, Failed, Follow, HasIts, HasReplyOf, IsAnswered, IsAnsweredBy, IsSession, IsSettled, IsToldBy, LeavesOff, MayTake, Nothing, Session, SessionsHaveOneList, Unanswered, UnderWay, WasKept, WasUnderWay}
+use Rattle.fax_run.specs.Sessions.{Adds, AreAdded, AreHeard, CameIn, CameInTurn, EachOnce, Failed, Follow, HasIts, HasReplyOf, IsAnswered, IsAnsweredBy, IsSession, IsSettled, IsToldBy, LeavesOff, MayTake, Nothing, Session, SessionsHaveOneList, Unanswered, UnderWay, WasKept, WasUnderWay}
 use Rattle.fax_run.specs.Verdict.{Repeated, asked_above, decided_new, denied, is_too_high, new_asked, raised, reply_of, step_reply, taken_once, verdict, without_given}
 use Rattle.fax_run.specs.declared.arrival.Arrival.{Arrival}
 
@@ -254,6 +255,20 @@ module _ (first : Start) (before : List Fed) (x : Session) where
       by true taken = (under s p ∷ [], refl, (record { arrival = a; posts = reads; settings = refl; answered = subst (CameSo a) (its_step past p taken) came }, tt))
       by false untaken = ([], refl, tt)
 
+  -- so do all of a batch that was under way
+  batch_adds : (batch : List Arrival) (past all : List Reading) → AreHeard batch past all → ((a : Arrival) → Has batch a → WasUnderWay a x.under_way)
+      → Adds first x (on all) (on past)
+  batch_adds [] past all is were = ([], ap on is, tt)
+  batch_adds (a ∷ batch) past all (r, reads, more) were =
+      adds_on first x (on all) (on (r ∷ past)) (on past) (batch_adds batch (r ∷ past) all more (λ b has. were b (inr has)))
+      (one_adds a past r (inr (were a (inl refl))) reads)
+
+  -- and what is taken of it is accepted
+  batch_accepted : (batch : List Arrival) (past all : List Reading) → AreHeard batch past all → AreAccepted first (on past) → AreAccepted first (on all)
+  batch_accepted [] past all is are = subst (λ rs. AreAccepted first (on rs)) (sym is) are
+  batch_accepted (a ∷ batch) past all (r, reads, more) are =
+      batch_accepted batch (r ∷ past) all more (accepted_more s first (on past) r (lawful_reading a r reads) are)
+
   -- what was answered among these was answered in the session
   abbrev AreOfSession : List Arrival → List Response → Type 0
   AreOfSession arrivals replies = (a : Arrival) (reply : Response) → IsAnswered a reply arrivals replies → IsAnswered a reply x.arrivals x.replies
@@ -339,17 +354,17 @@ module _ (first : Start) (x : Session) (earlier : List Session) (middle last : S
       }
 
   -- where what was under way was taken, or lost
-  may_take : (a : Arrival) → WasUnderWay a x.under_way → MayTake x.settings (end_after first old.fed) session.heard a last → OneList first (x ∷ earlier) last
-  may_take a was (inl is) = one_more session.heard accepted_heard ([], refl, tt) is
-  may_take a was (inr (r, reads, is)) =
-      one_more (r ∷ session.heard) (accepted_more x.settings first (since session.heard) r (lawful_reading a r reads) accepted_heard)
-      (one_adds first old.fed x a session.heard r (inr was) reads) is
+  may_take : (batch : List Arrival) → ((a : Arrival) → Has batch a → WasUnderWay a x.under_way)
+      → MayTake x.settings (end_after first old.fed) session.heard batch last → OneList first (x ∷ earlier) last
+  may_take batch were (inl is) = one_more session.heard accepted_heard ([], refl, tt) is
+  may_take batch were (inr (all, heard, is)) =
+      one_more all (batch_accepted first old.fed x batch session.heard all heard accepted_heard) (batch_adds first old.fed x batch session.heard all heard were) is
 
   -- the same however it left off
   by_end : (o : UnderWay) → x.under_way ≡ o → LeavesOff (end_after first old.fed) x session.heard o last → OneList first (x ∷ earlier) last
   by_end Nothing was is = one_more session.heard accepted_heard ([], refl, tt) is
-  by_end (Unanswered a) was is = may_take a (subst (WasUnderWay a) (sym was) refl) is
-  by_end (Failed a) was (failed, is) = may_take a (subst (WasUnderWay a) (sym was) refl) is
+  by_end (Unanswered batch) was is = may_take batch (λ a has. subst (WasUnderWay a) (sym was) has) is
+  by_end (Failed batch) was (failed, is) = may_take batch (λ a has. subst (WasUnderWay a) (sym was) has) is
 
 -- all sessions have one list
 one_list : (first : Start) (sessions : List Session) (last : Start) → Follow first sessions last → OneList first sessions last

@@ -2,6 +2,7 @@
 -- Of sessions and of the requests that the machine was fed the newest comes first.
 use Rattle.std.specs.Prelude.{◌≡◌, ◌⊎◌, ⊤, true, false, nat_lt, List, [], ◌∷◌, ◌++◌, Some}
 use Rattle.std.specs.List.{AllByRecursion, AllZip, list_any}
+use Rattle.sqlite_rules.specs.Lists.{Has}
 use Rattle.fax_job.specs.declared.refusal.Refusal.TheVariants.{Unavailable}
 use Rattle.fax_ask.specs.Response.{Response, kept_response, refused_response}
 use Rattle.fax_core.specs.Queue.{Entry}
@@ -17,11 +18,11 @@ use Rattle.fax_run.specs.declared.arrival.Arrival.{Arrival}
 
 -- ---- sessions
 
--- what was under way when a session was broken off: nothing; an arrival after all others, not answered; or one of them, which was answered 503
+-- what was under way when a session was broken off: nothing; a batch of arrivals after all others, not answered; or one of those that came, each answered 503
 pub data UnderWay : Type 0 where
   Nothing : UnderWay
-  Unanswered : (a : Arrival) → UnderWay
-  Failed : (a : Arrival) → UnderWay
+  Unanswered : (batch : List Arrival) → UnderWay
+  Failed : (batch : List Arrival) → UnderWay
 
 -- its setup and controls, what came and what was replied, and what was under way when it was broken off
 pub record Session : Type 0 where
@@ -30,29 +31,36 @@ pub record Session : Type 0 where
   pub replies : List Response
   pub under_way : UnderWay
 
--- One of the arrivals was answered 503, and nothing was taken since.
-pub record HasFailed (s : Settings) (from : Start) (arrivals : List Arrival) (replies : List Response) (heard : List Reading) (a : Arrival) : Type 0 where
+-- Each arrival of a batch that came was answered 503, and nothing was taken since.
+pub record HasFailed (s : Settings) (from : Start) (arrivals : List Arrival) (replies : List Response) (heard : List Reading) (batch : List Arrival) : Type 0 where
   pub before : List Arrival
   pub after : List Arrival
-  pub one : arrivals ≡ before ++ a ∷ after
+  pub one : arrivals ≡ before ++ (batch ++ after)
   pub replied : List Response
+  pub failed : List Response
   pub more : List Response
-  pub answers : replies ≡ replied ++ refused_response Unavailable NoKeys ∷ more
+  pub answers : replies ≡ replied ++ (failed ++ more)
+  pub each : AllZip (λ (a : Arrival) reply. reply ≡ refused_response Unavailable NoKeys) batch failed
   pub later : List Reading
   pub earlier : List Reading
   pub parts : heard ≡ later ++ earlier
   pub answered : IsRun s from [] before replied earlier
   pub still : end_of s from heard ≡ end_of s from earlier
 
--- A session leaves where what it heard leads, or where that leads with this arrival.
-abbrev pub MayTake : Settings → Start → List Reading → Arrival → Start → Type 0
-MayTake s from heard a left = (left ≡ end_of s from heard) ⊎ ((r : Reading) × IsReading a r × (left ≡ end_of s from (r ∷ heard)))
+-- all of a batch are heard, one after the other
+abbrev pub AreHeard : List Arrival → List Reading → List Reading → Type 0
+AreHeard [] past heard = heard ≡ past
+AreHeard (a ∷ batch) past heard = (r : Reading) × IsReading a r × AreHeard batch (r ∷ past) heard
 
--- What was under way was taken, or lost.
+-- A session leaves where what it heard leads, or where that leads with all of this batch.
+abbrev pub MayTake : Settings → Start → List Reading → List Arrival → Start → Type 0
+MayTake s from heard batch left = (left ≡ end_of s from heard) ⊎ ((all : List Reading) × AreHeard batch heard all × (left ≡ end_of s from all))
+
+-- All that was under way was taken, or all of it was lost.
 abbrev pub LeavesOff : Start → Session → List Reading → UnderWay → Start → Type 0
 LeavesOff from x heard Nothing left = left ≡ end_of x.settings from heard
-LeavesOff from x heard (Unanswered a) left = MayTake x.settings from heard a left
-LeavesOff from x heard (Failed a) left = HasFailed x.settings from x.arrivals x.replies heard a × MayTake x.settings from heard a left
+LeavesOff from x heard (Unanswered batch) left = MayTake x.settings from heard batch left
+LeavesOff from x heard (Failed batch) left = HasFailed x.settings from x.arrivals x.replies heard batch × MayTake x.settings from heard batch left
 
 -- It was heard and answered from there, as a run by its settings, and left this.
 pub record IsSession (from : Start) (x : Session) (left : Start) : Type 0 where
@@ -75,8 +83,8 @@ IsAnswered a reply arrivals replies = ⊥
 -- it was under way at the end
 abbrev pub WasUnderWay : Arrival → UnderWay → Type 0
 WasUnderWay a Nothing = ⊥
-WasUnderWay a (Unanswered b) = b ≡ a
-WasUnderWay a (Failed b) = b ≡ a
+WasUnderWay a (Unanswered batch) = Has batch a
+WasUnderWay a (Failed batch) = Has batch a
 
 -- The request came in this session, and was fed by its settings after the earlier ones. Its arrival was answered with the reply to its step there; or it was under way at the end.
 pub record CameIn (first : Start) (x : Session) (f : Fed) (earlier : List Fed) : Type 0 where
@@ -170,8 +178,8 @@ SessionsHaveOneList = (first last : Start) (sessions : List Session) → Sound f
 -- whatever was under way at its end, each arrival was answered
 abbrev pub AllAnswered : UnderWay → Type 0
 AllAnswered Nothing = ⊤
-AllAnswered (Unanswered a) = ⊥
-AllAnswered (Failed a) = ⊤
+AllAnswered (Unanswered batch) = ⊥
+AllAnswered (Failed batch) = ⊤
 
 -- a session of these, and what was under way when it was broken off
 abbrev pub session_of : Settings → List Arrival → List Response → UnderWay → Session

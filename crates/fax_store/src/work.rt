@@ -28,13 +28,16 @@ impl<'s, S: Alter> Work<'s, S> {
         }
     }
 
-    /// Takes note of whether a refused reading of its store has undone the work. Then each later call is refused.
-    pub fn check(&mut self)
+    /// Takes note of whether a refused reading of its store has undone the work, and returns whether the work goes on. Else
+    /// each later call is refused.
+    pub fn check(&mut self) -> bool
         ensures same_reference { self.new.store.ghost_name ≡ self.old.store.ghost_name }
         ensures same { self.new.store.now ≡ self.old.store.now }
         ensures fails { self.new.failed ≡ (self.old.failed || not (within S.Store self.old).in_transaction) }
+        ensures goes_on { result ≡ not self.new.failed }
     {
         self.failed = self.failed || self.store.conn.is_autocommit();
+        !self.failed
     }
 
     /// Makes the changes those of the store.

@@ -17,7 +17,7 @@ use Rattle.fax_core.proofs.PlaceLemmas.{comes, stays}
 use Rattle.fax_run.specs.Laws.{AreAccepted, left_of}
 use Rattle.fax_run.specs.Reading.{Faulty, IsReading, Post, Posts, Reading, Sees}
 use Rattle.fax_run.specs.Run.{Fed, IsRun, Start, end_after, end_of, floors_after, is_new, is_of, is_taken, kept_after, queue_after, reply_to, step_of, taken, takes, under}
-use Rattle.fax_run.specs.Sessions.{Failed, IsSession, LeavesOff, MayTake, Nothing, Session, Unanswered, UnderWay, WasUnderWay}
+use Rattle.fax_run.specs.Sessions.{AreHeard, Failed, IsSession, LeavesOff, MayTake, Nothing, Session, Unanswered, UnderWay, WasUnderWay}
 use Rattle.fax_run.specs.Verdict.{Repeated, asked_above, decided_new, denied, is_too_high, new_asked, raised, repeated as repeated_entry, reply_of, step_reply, stepped, taken_once, verdict, without_given}
 use Rattle.fax_run.specs.declared.arrival.Arrival.{Arrival}
 use Rattle.fax_run.proofs.LedgerLemmas.{floors_rise, given_finds, given_none}
@@ -202,6 +202,12 @@ module _ (x : Session) where
       run_came from (r ∷ past) arrivals replies heard run (λ b has. own b (inr has)) (one_came r past a reads (inl (own a (inl refl))) all)
   run_came from past arrivals replies heard run own all = absurd run
 
+  batch_came : (batch : List Arrival) (past all : List Reading) → AreHeard batch past all → ((a : Arrival) → WasUnderWay a (Failed batch) → WasUnderWay a x.under_way)
+      → AllCame past → AllCame all
+  batch_came [] past all is were came = subst AllCame (sym is) came
+  batch_came (a ∷ batch) past all (r, reads, more) were came =
+      batch_came batch (r ∷ past) all more (λ b has. were b (inr has)) (one_came r past a reads (inr (were a (inl refl))) came)
+
   -- events of sessions are of these and one more
   of_more : (sessions : List Session) (trace : List Event) → AreOf sessions trace → AreOf (x ∷ sessions) trace
   of_more sessions [] of = tt
@@ -231,14 +237,14 @@ module _ (x : Session) where
     heard_came : AllCame session.heard
     heard_came = run_came from [] x.arrivals x.replies session.heard session.answered (λ a has. has) tt
 
-    may_take : (a : Arrival) → WasUnderWay a x.under_way → MayTake x.settings from session.heard a last → Joined
-    may_take a was (inl is) = joined session.heard heard_came is
-    may_take a was (inr (r, reads, is)) = joined (r ∷ session.heard) (one_came r session.heard a reads (inr was) heard_came) is
+    may_take : (batch : List Arrival) → ((a : Arrival) → WasUnderWay a (Failed batch) → WasUnderWay a x.under_way) → MayTake x.settings from session.heard batch last → Joined
+    may_take batch were (inl is) = joined session.heard heard_came is
+    may_take batch were (inr (all, heard, is)) = joined all (batch_came batch session.heard all heard were heard_came) is
 
     by_end : (o : UnderWay) → x.under_way ≡ o → LeavesOff from x session.heard o last → Joined
     by_end Nothing was is = joined session.heard heard_came is
-    by_end (Unanswered a) was is = may_take a (subst (WasUnderWay a) (sym was) refl) is
-    by_end (Failed a) was is = may_take a (subst (WasUnderWay a) (sym was) refl) is.1
+    by_end (Unanswered batch) was is = may_take batch (λ a has. subst (WasUnderWay a) (sym was) has) is
+    by_end (Failed batch) was is = may_take batch (λ a has. subst (WasUnderWay a) (sym was) has) is.1
 
 pub sessions_are_traces : SessionsAreTraces
 sessions_are_traces first last [] follow = ([], (tt, follow))

@@ -46,8 +46,8 @@ module _ {C : Type 0} (gives : C → List ℕ → ℕ → C → Type 0) where
 
   -- each was answered: what was under way at the end is none that had no answer
   unanswered_row : (run : Served C) (a b : Arrival) (arrivals : List Arrival) → AreArrivals gives run.clock run.turns arrivals
-      → ¬ IsOf gives run (session_of run.settings arrivals (replies_of run.turns) (Unanswered a))
-      × IsOf gives run (session_of run.settings arrivals (replies_of run.turns) (Failed b))
+      → ¬ IsOf gives run (session_of run.settings arrivals (replies_of run.turns) (Unanswered (a ∷ [])))
+      × IsOf gives run (session_of run.settings arrivals (replies_of run.turns) (Failed (b ∷ [])))
   unanswered_row run a b arrivals are = (λ of. of.under_way, record { settings = refl; arrivals = are; replies = refl; under_way = tt })
 
   -- from a sound queue that the files held, such a session left what they hold afterwards

@@ -14,6 +14,7 @@ use Rattle.fax_once.proofs.acceptance.answer_new.Goals as goal
 pub returns-in_default : goal.returns-in_default
 returns-in_default g c = record {
   leaves = follows_at g.S.Store c.args.work.now;
+  goes_on = c.requires.on;
   opens = λ active clean. active_serves _ _ c.requires.on active clean;
   kept = tt;
   comes = λ m₀ m k₀ k sound works asks unkept serves.
@@ -28,6 +29,7 @@ returns-in_err-t g c =
     let looked = c.in_err-t.ensures in
     record {
       leaves = looked.leaves;
+      goes_on = search rules;
       opens = search rules;
       kept = search rules;
       comes = λ m₀ m k₀ k sound works asks unkept serves.
@@ -40,6 +42,7 @@ returns-in-Refused g c =
     let looked = c.in_ok-t.ensures in
     record {
       leaves = looked.leaves;
+      goes_on = looked.goes_on;
       opens = looked.opens;
       kept = tt;
       comes = λ m₀ m k₀ k sound works asks unkept serves.
@@ -62,6 +65,7 @@ returns-in-Taken g c =
     let accepts = c.accept.ensures in
     record {
       leaves = follows_then g.S.Store _ _ _ looked.leaves accepts.leaves;
+      goes_on = accepts.goes_on;
       opens = opened_by g.S.Store _ _ _ c.accept.result looked.leaves accepts.leaves accepts.goes_on;
       kept = kept_by c.accept.result c.in-Taken.reply accepts.gives;
       comes = λ m₀ m k₀ k sound works asks unkept serves.

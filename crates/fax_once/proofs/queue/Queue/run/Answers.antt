@@ -20,6 +20,7 @@ loop-arrival-init g c = record {
   room = search rules;
   office = refl;
   clean = λ now. now;
+  shut = λ before. before;
   ran = λ m k sound means clean.
       let s = settings_of c.args.self.now.office.setup c.args.self.now.office.controls in
       let start : Start = record { queue = m; kept = k } in
@@ -38,6 +39,7 @@ loop-arrival-preserved g c =
       room = omega (arith, room, grown);
       office = c.handle-reply.ensures.office ∙ c.loop-arrival.invariant.office;
       clean = λ now. c.loop-arrival.invariant.clean (c.handle-reply.ensures.clean now);
+      shut = λ before. c.handle-reply.ensures.shut;
       ran = λ m k sound means clean.
           let old = state g.S.Store c.loop-arrival.self.store.conn in
           let new = state g.S.Store c.handle-reply.new.self.store.conn in

@@ -51,17 +51,17 @@ returns-in_err-reply g c =
           };
     })
 
-pub returns-in-Refused : goal.returns-in-Refused
-returns-in-Refused g c =
+pub returns-in-Unchanged : goal.returns-in-Unchanged
+returns-in-Unchanged g c =
     let begun = c.in_ok-work.ensures.work in
     let answers = c.in_ok-reply.ensures in
-    let dropped = c.drop-work-in-Refused-1.ensures in
-    let new = state g.S.Store c.drop-work-in-Refused-1.new.self.0.conn in
+    let dropped = c.drop-work-in-Unchanged-1.ensures in
+    let new = state g.S.Store c.drop-work-in-Unchanged-1.new.self.0.conn in
     let work = c.answer_new.new.work in
     let there = within g.S.Store work in
     let old = state g.S.Store c.args.self.now.store.conn in
-    let same : c.drop-work-in-Refused-1.new.self.0 ≡ c.self-in-Refused-1.given.0 = search rules in
-    subst (λ store. AnswersNew g.S.Store c.args.self.now (record c.args.self.now { store = store }) (Ok c.in-Refused.reply) c.args.arrival.now c.args.sender.now c.args.ask c.args.floor) same (record {
+    let same : c.drop-work-in-Unchanged-1.new.self.0 ≡ c.self-in-Unchanged-1.given.0 = search rules in
+    subst (λ store. AnswersNew g.S.Store c.args.self.now (record c.args.self.now { store = store }) (Ok c.in-Unchanged.reply) c.args.arrival.now c.args.sender.now c.args.ask c.args.floor) same (record {
       leaves = record {
         office = search rules;
         clean = λ now. begun.clean (answers.leaves.clean (dropped.clean now));
@@ -75,7 +75,7 @@ returns-in-Refused g c =
             crash = λ found may. inl (dropped_stops old _ _ new _ _ begun.opens tables answers.leaves.crash dropped.crash found may);
             leaves = λ clean.
                 let at = answers.opens (begun.opens.0 tables) (dropped.clean clean) in
-                refused_leaves there new work.failed m k v c.in-Refused.reply (subst (λ x. IsLeft there work.failed m m k k x v) c.in-Refused.is (left at)) (dropped.undone m _ k _ (λ serves. (left serves).2));
+                refused_leaves there new work.failed m k v c.in-Unchanged.reply (subst (λ x. IsLeft there work.failed m m k k x v) c.in-Unchanged.is (left at)) (dropped.undone m _ k _ (λ serves. (left serves).2));
             cause = λ serves. tt;
           };
     })

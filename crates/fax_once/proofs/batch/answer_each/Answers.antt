@@ -1,0 +1,111 @@
+use Rattle.std.proofs.Common.{Bool, ◌≡◌, ◌∙◌, ◌+◌, ◌<◌, ◌≤◌, ◌||◌, ◌++◌, [], ◌∷◌, List, ap, false, length, rules, subst, sym, take}
+use Rattle.std.proofs.lemmas.List.{take_all, take_more}
+use Rattle.fax_ask.specs.Response.{Response}
+use Rattle.fax_decide.specs.Settings.{settings_of}
+use Rattle.fax_store.proofs.FrameLemmas.{follows_at, follows_then}
+use Rattle.fax_store.specs.Calls.{within}
+use Rattle.fax_run.specs.Run.{Start}
+use Rattle.fax_run.specs.declared.arrival.Arrival.{Arrival}
+use Rattle.fax_once.proofs.AnsweringLemmas.{active_serves, no_answer}
+use Rattle.fax_once.proofs.BatchLemmas.{goes_within, here_sound, runs_at_first}
+use Rattle.fax_once.specs.Batch.{RunsWithin, is_accepted, reply_in}
+use Rattle.fax_once.proofs.batch.answer_each.Goals as goal
+
+pub loop-arrival-init : goal.loop-arrival-init
+loop-arrival-init g c = record {
+  leaves = follows_at g.S.Store c.args.work.now;
+  on = c.requires.on;
+  opens = λ active clean. active_serves _ _ c.requires.on active clean;
+  ran = λ m k sound works serves.
+      let s = settings_of c.args.office.now.setup c.args.office.now.controls in
+      let start : Start = record { queue = m; kept = k } in
+      let work = c.args.work.now in
+      subst (λ (rs : List Response). RunsWithin s start [] rs false (within g.S.Store work) work.failed) (sym c.requires.none)
+      (runs_at_first s start (within g.S.Store work) work.failed (works serves));
+}
+
+pub loop-arrival-preserved : goal.loop-arrival-preserved
+loop-arrival-preserved g c =
+    let i = c.loop-arrival.arrival-index in
+    let here = c.loop-arrival.invariant in
+    let answers = c.in_ok-answered.ensures in
+    let old = c.args.work.now in
+    let mid = c.loop-arrival.work in
+    let new = c.answer_within.new.work in
+    let a = c.arrival-item.result in
+    let x = c.in_ok-answered.answered in
+    record {
+      leaves = follows_then g.S.Store _ _ _ here.leaves answers.leaves;
+      on = answers.goes_on;
+      opens = λ active clean. answers.opens (here.leaves.crash active).0 clean;
+      ran = λ m k sound works serves.
+          let s = settings_of c.args.office.now.setup c.args.office.now.controls in
+          let start : Start = record { queue = m; kept = k } in
+          let front = take i c.args.arrivals.now in
+          let replies = c.loop-arrival.replies.items in
+          let runs = here.ran m k sound works (answers.leaves.served serves) in
+          let comes = answers.comes m _ k _ (here_sound s start front replies c.loop-arrival.has_accepted (within g.S.Store mid) mid.failed runs sound) (λ _. runs.under) serves in
+          let on = goes_within s start front replies c.loop-arrival.has_accepted (within g.S.Store mid) mid.failed runs a x (within g.S.Store new) new.failed comes.0 comes.1 comes.2 comes.3 in
+          let low : i < length c.args.arrivals.now = search rules in
+          let seen : take (i + 1) c.args.arrivals.now ≡ front ++ a ∷ [] = take_more c.args.arrivals.now i a low ∙ ap (λ (b : Arrival). front ++ b ∷ []) (sym c.arrival-item.is) in
+          let told : c.push.new.self.items ≡ replies ++ reply_in x ∷ [] = search rules in
+          let flag : c.is_accepted-has_accepted.result ≡ is_accepted x = c.is_accepted-has_accepted.ensures in
+          let has = c.loop-arrival.has_accepted in
+          let now = within g.S.Store new in
+          subst (λ (arrivals : List Arrival). RunsWithin s start arrivals c.push.new.self.items (has || c.is_accepted-has_accepted.result) now new.failed) (sym seen)
+          (subst (λ (rs : List Response). RunsWithin s start (front ++ a ∷ []) rs (has || c.is_accepted-has_accepted.result) now new.failed) (sym told)
+          (subst (λ (b : Bool). RunsWithin s start (front ++ a ∷ []) (replies ++ reply_in x ∷ []) (has || b) now new.failed) (sym flag) on));
+    }
+
+pub returns : goal.returns
+returns g c =
+    let here = c.loop-arrival.invariant in
+    record {
+      leaves = here.leaves;
+      goes_on = here.on;
+      opens = here.opens;
+      ran = λ m k sound works serves.
+          let all : length c.args.arrivals.now ≤ c.loop-arrival.arrival-index = search rules in
+          let s = settings_of c.args.office.now.setup c.args.office.now.controls in
+          let start : Start = record { queue = m; kept = k } in
+          let work = c.loop-arrival.work in
+          subst (λ (arrivals : List Arrival). RunsWithin s start arrivals c.loop-arrival.replies.items c.loop-arrival.has_accepted (within g.S.Store work) work.failed)
+          (take_all c.loop-arrival.arrival-index c.args.arrivals.now all) (here.ran m k sound works serves);
+    }
+
+pub returns-in_err-answered : goal.returns-in_err-answered
+returns-in_err-answered g c =
+    let here = c.loop-arrival.invariant in
+    let given = c.from_residual in
+    let answers = c.in_err-answered.ensures in
+    let mid = c.loop-arrival.work in
+    record {
+      leaves = follows_then g.S.Store _ _ _ here.leaves answers.leaves;
+      goes_on = search rules;
+      opens = search rules;
+      ran = λ m k sound works serves.
+          let s = settings_of c.args.office.now.setup c.args.office.now.controls in
+          let start : Start = record { queue = m; kept = k } in
+          let front = take c.loop-arrival.arrival-index c.args.arrivals.now in
+          let runs = here.ran m k sound works (answers.leaves.served serves) in
+          let comes = answers.comes m _ k _ (here_sound s start front c.loop-arrival.replies.items c.loop-arrival.has_accepted (within g.S.Store mid) mid.failed runs sound) (λ _. runs.under) serves in
+          no_answer given.result c.in_err-answered.field-0.0 _ given.ensures.1 comes.0 (_, _, comes.1);
+    }
+
+pub returns-in-Err : goal.returns-in-Err
+returns-in-Err g c =
+    let here = c.loop-arrival.invariant in
+    let answers = c.in_ok-answered.ensures in
+    let mid = c.loop-arrival.work in
+    record {
+      leaves = follows_then g.S.Store _ _ _ here.leaves answers.leaves;
+      goes_on = tt;
+      opens = tt;
+      ran = λ m k sound works serves.
+          let s = settings_of c.args.office.now.setup c.args.office.now.controls in
+          let start : Start = record { queue = m; kept = k } in
+          let front = take c.loop-arrival.arrival-index c.args.arrivals.now in
+          let runs = here.ran m k sound works (answers.leaves.served serves) in
+          let comes = answers.comes m _ k _ (here_sound s start front c.loop-arrival.replies.items c.loop-arrival.has_accepted (within g.S.Store mid) mid.failed runs sound) (λ _. runs.under) serves in
+          (search rules, (_, _, comes.3));
+    }
