@@ -37,7 +37,7 @@ use Rattle.fax_once.specs.declared.acceptance.Answered.TheVariants.{Unchanged, A
 
 -- ---- one arrival
 
--- what is found, or only want of an answer
+-- what is found, or only a missing answer
 pub found_or_none : {A : Type 0} (result : Result A Fault) (P : A → Type 0) → IfOk result P → OnlyNoAnswer result → OrNoAnswer result P
 found_or_none (Ok x) P found none = found
 found_or_none (Err fault) P found none = none

@@ -81,7 +81,7 @@ module _ {S : Type 0} (g : Ghosts S) (old new : Store S) where
   abbrev pub FindsOf : {E : Type 0} → Result Looked E → (Queue → Ledger → Looked → Type 0) → Type 0
   FindsOf result P = (m : Queue) (k : Ledger) → Sound m → MeansNow (shown g old) m k → HasCleanDisk (shown g new) → IfOk result (P m k)
 
-  -- of a sound queue only want of an answer leaves nothing found, while the store serves
+  -- of a sound queue only a missing answer leaves nothing found, while the store serves
   abbrev pub FailsForWant : Result Looked Fault → Type 0
   FailsForWant result = (m : Queue) (k : Ledger) → Sound m → MeansNow (shown g old) m k → Serves (shown g new) → OnlyNoAnswer result
 

@@ -46,7 +46,7 @@ pub(crate) enum Batch {
 ///
 /// # Errors
 ///
-/// As those of [`answer_each`], and want of memory for the replies; nothing has changed.
+/// As those of [`answer_each`], and lack of memory for the replies; nothing has changed.
 pub(crate) fn answer_together<S: Alter>(
     store: &mut Store<S>,
     office: &Office,
