@@ -142,6 +142,7 @@ class Disk:
         self.files, self.stopped, self.calls = {name: Left(data, [name]) for name, data in files.items()}, None, 0
         self.removed = []
         self.failed = []  # the kind of each call that failed, "mark" for a write of one byte
+        self.syncs = 0  # how many were made
         at = 0
         while at < len(journal):
             self.calls += 1
@@ -157,7 +158,9 @@ class Disk:
             result, at = int(journal[at:end]), end + 1
             if result < 0:
                 self.failed.append("mark" if kind == "write" and len(data) == 1 else kind)
-            elif kind != "sync" or syncs:
+                continue
+            self.syncs += kind == "sync"
+            if kind != "sync" or syncs:
                 self.make((kind, name, int(place), data[:result]) if kind == "write" else call)
 
     def make(self, call):

@@ -1,4 +1,4 @@
-"""`serve` is killed with -9 in the midst of requests, and started again each time on the same file. Six clients, one who brings
+"""`serve` is killed with -9 in the midst of requests, and started again each time on the same file. Thirteen clients, one who brings
 an older queue's jobs in, and two workers ask it at once over a line that loses, doubles and delays messages, beside peers that
 say nothing."""
 import contextlib
@@ -14,7 +14,7 @@ from .runner import group
 from .shared import (CLOSE, MANY, NO_WAITS, Peer, SETUP, Server, Wrong, copied, database_of, exchange, expect, get, option,
                      post, said, say, told)
 
-check = group("killed", "Kills `serve` under the load of six clients, an office that moves its jobs in, and two workers at "
+check = group("killed", "Kills `serve` under the load of thirteen clients, an office that moves its jobs in, and two workers at "
               "once; then its file can't grow for a while.")
 PATIENCE = 60  # seconds until whatever is awaited counts as never coming
 UNAVAILABLE = b'{"no":27,"word":"unavailable"}'
@@ -284,7 +284,7 @@ def kills(folder):
     confirmed or came in as sent, none given up is answered, and the system's sqlite finds each file sound."""
     count, seed = int(option("kills", 1000 if said.all else 100)), int(option("seed", 1))
     facts, server = Facts(), serving(folder)
-    kinds = [*((Desk, f"desk{place}") for place in range(6)), (Mover, "spool"), (Worker, "ttyS0"), (Worker, "ttyS1")]
+    kinds = [*((Desk, f"desk{place}") for place in range(13)), (Mover, "spool"), (Worker, "ttyS0"), (Worker, "ttyS1")]
     askers = [kind(name, server.port, facts, seed) for kind, name in kinds]
     for asker in askers:
         asker.start()

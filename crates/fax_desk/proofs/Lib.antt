@@ -1,5 +1,7 @@
+mod ArriveLemmas
 mod OneReplayLemmas
 mod ReplayingLemmas
 pub mod ServedLemmas
 mod TurnsLemmas
+mod TogetherLemmas
 mod RowsTurns

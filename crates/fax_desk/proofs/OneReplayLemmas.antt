@@ -16,10 +16,10 @@ use Rattle.fax_http.specs.Clock.{moment_said}
 use Rattle.fax_http.specs.Conversation.{Turn}
 use Rattle.fax_http.specs.Laws.{message_of}
 use Rattle.fax_http.proofs.DivisionLemmas.{one_division}
-use Rattle.fax_desk.specs.Desk.{IsArrival}
+use Rattle.fax_desk.specs.Desk.{IsArrival, said_in}
 use Rattle.fax_desk.specs.Laws.{NoneGaveOut, OneReplay}
 use Rattle.fax_desk.specs.Replaying.{empty_start, gives_said, settings_in}
-use Rattle.fax_desk.specs.Turns.{AreTurns, IsTurn, said_in}
+use Rattle.fax_desk.specs.Turns.{AreTurns, IsTurn}
 
 -- ---- one message
 

@@ -8,7 +8,8 @@ use Rattle.fax_core.specs.Settings.{Settings}
 use Rattle.fax_decide.specs.declared.office.Office.{Office}
 use Rattle.fax_desk.specs.Conversing.{Converses, ServesFrom}
 use Rattle.fax_desk.specs.Replaying.{AreOfEmptyQueue, IsReplayed}
-use Rattle.fax_desk.specs.Turns.{AreTurns, said_in}
+use Rattle.fax_desk.specs.Desk.{said_in}
+use Rattle.fax_desk.specs.Turns.{AreTurns}
 use Rattle.fax_http.specs.Conversation.{Turn}
 use Rattle.fax_http.specs.Serving.{EndsBy}
 use Rattle.fax_http.specs.declared.device.Watched.{Watched}

@@ -8,8 +8,8 @@ use Rattle.fax_http.specs.Conversation.{Turn}
 use Rattle.fax_run.specs.Run.{Start}
 use Rattle.fax_run.specs.Sessions.{IsSession, Nothing, session_of}
 use Rattle.fax_run.specs.declared.arrival.Arrival.{Arrival}
-use Rattle.fax_desk.specs.Desk.{IsArrival}
-use Rattle.fax_desk.specs.Turns.{AreArrivals, AreTurns, IsTurn, TurnsAreASession, said_in}
+use Rattle.fax_desk.specs.Desk.{IsArrival, said_in}
+use Rattle.fax_desk.specs.Turns.{AreArrivals, AreTurns, IsTurn, TurnsAreASession}
 
 abbrev field : List ℕ → List ℕ → Field
 field name value = record { name = name; raw = value; end = crlf }
@@ -51,13 +51,13 @@ module _ {C : Type 0} (gives : C → List ℕ → ℕ → C → Type 0) (s : Set
   -- an arrival is that of its message, at the moment that the clock gave
   arrival_row : (clock : C) (x : Turn) (a : Arrival) → AreArrivals gives clock (x ∷ []) (a ∷ [])
       → (moment : ℕ) × (later : C) × gives clock (said_in x) moment later × IsArrival x.head x.body moment a
-  arrival_row clock x a (moment, later, given, its, rest) = (moment, later, given, its)
+  arrival_row clock x a (last, (moment, later, given, its, rest)) = (moment, later, given, its)
 
   -- the clock goes on from the first message to the second
   moments_row : (clock : C) (x y : Turn) (a b : Arrival) → AreArrivals gives clock (x ∷ y ∷ []) (a ∷ b ∷ [])
       → (one : ℕ) × (between : C) × (two : ℕ) × (last : C) × gives clock (said_in x) one between × gives between (said_in y) two last × IsArrival y.head y.body two b
-  moments_row clock x y a b (one, between, first, is, (two, last, second, its, rest)) = (one, between, two, last, first, second, its)
+  moments_row clock x y a b (end, (one, between, first, is, (two, last, second, its, rest))) = (one, between, two, last, first, second, its)
 
   -- each message has an arrival, and no arrival is without one
   no_arrival_row : (clock : C) (x : Turn) (a : Arrival) → (¬ AreArrivals gives clock (x ∷ []) []) × (¬ AreArrivals gives clock [] (a ∷ []))
-  no_arrival_row clock x a = (λ are. are, λ are. are)
+  no_arrival_row clock x a = (λ are. are.1, λ are. are.1)

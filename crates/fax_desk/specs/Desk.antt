@@ -1,18 +1,16 @@
--- What a message comes to at the desk: an arrival, which the queue handles.
-use Rattle.std.specs.Prelude.{◌≡◌, ℕ, List, codes}
+-- What messages come to at the desk: arrivals, which the queue answers.
+use Rattle.std.specs.Prelude.{◌≡◌, ℕ, List, [], ◌∷◌, codes, map}
 use Rattle.httparse.specs.Grammar.{RequestHead}
-use Rattle.sqlite.specs.State.{State, HasCleanDisk}
+use Rattle.sqlite.specs.State.{HasCleanDisk}
+use Rattle.sqlite_trees.specs.declared.store.Store.{Ghosts}
 use Rattle.fax_ask.specs.Method.{method_of}
 use Rattle.fax_ask.specs.Response.{Response}
-use Rattle.fax_core.specs.Ledger.{Ledger}
-use Rattle.fax_core.specs.Queue.{Queue}
-use Rattle.fax_core.specs.Settings.{Settings}
-use Rattle.fax_core.specs.Sound.{Sound}
-use Rattle.fax_once.specs.Stop.{StopsAnswered}
-use Rattle.fax_once.specs.Handled.{Handles}
-use Rattle.fax_run.specs.declared.arrival.Arrival.{Arrival}
-use Rattle.fax_store.specs.Store.{Means}
+use Rattle.fax_http.specs.Conversation.{Turn}
 use Rattle.fax_http.specs.Message.{fields_of, sole, values_of}
+use Rattle.fax_once.specs.Queue.{ClosedWhereShut, From, settings, tables}
+use Rattle.fax_once.specs.Stop.{StopsIn}
+use Rattle.fax_run.specs.declared.arrival.Arrival.{Arrival}
+use Rattle.fax_desk.specs.declared.desk.Desk.{Desk}
 
 -- the arrival of a message with that head and body, at that moment
 pub record IsArrival (head : RequestHead) (body : List ℕ) (moment : ℕ) (a : Arrival) : Type 0 where
@@ -23,14 +21,28 @@ pub record IsArrival (head : RequestHead) (body : List ℕ) (moment : ℕ) (a : 
   pub content : a.body.now ≡ body
   pub at : a.moment ≡ moment
 
--- From a store that means a sound queue, the arrival at that moment is handled. A crash behind it leaves what one before could leave, or what it makes.
-abbrev pub HandlesAt : ℕ → Settings → State → RequestHead → List ℕ → Response → State → Type 0
-HandlesAt moment settings old head body reply new =
-    (m : Queue) (k : Ledger) → Sound m → Means old m k → HasCleanDisk new
-    → (a : Arrival) × IsArrival head body moment a × Handles settings a m k reply new × StopsAnswered settings a m k reply old new
+-- what a message says of its moment
+abbrev pub said_in : Turn → List ℕ
+said_in turn = sole (values_of (codes "Fax-Moment") (fields_of turn.head))
 
--- the clock gives a moment for what the message says of it, and the arrival at that moment is handled
-abbrev pub IsHandled : (List ℕ → ℕ → Type 0) → Settings → State → RequestHead → List ℕ → Response → State → Type 0
-IsHandled gives settings old head body reply new =
-    (moment : ℕ) × gives (sole (values_of (codes "Fax-Moment") (fields_of head))) moment
-    × HandlesAt moment settings old head body reply new
+-- what was replied to messages
+abbrev pub replies_of : List Turn → List Response
+replies_of turns = map (λ turn. turn.reply) turns
+
+module _ {C : Type 0} (gives : C → List ℕ → ℕ → C → Type 0) where
+  -- messages arrive as these, each at the moment that the clock gives then, and this is the clock after them
+  abbrev pub Arrive : C → List Turn → List Arrival → C → Type 0
+  Arrive clock [] [] later = later ≡ clock
+  Arrive clock [] (a ∷ arrivals) later = ⊥
+  Arrive clock (turn ∷ turns) [] later = ⊥
+  Arrive clock (turn ∷ turns) (a ∷ arrivals) later =
+      (moment : ℕ) × (next : C) × gives clock (said_in turn) moment next × IsArrival turn.head turn.body moment a × Arrive next turns arrivals later
+
+  module _ {S : Type 0} (g : Ghosts S) where
+    -- Messages were answered, by the same setup and controls as ever. From each sound queue that the tables mean they are a run of their arrivals, and a crash after it leaves such rows. Where the disk has returned what was written, it had before.
+    pub record HasAnswered (old : Desk C S) (turns : List Turn) (new : Desk C S) : Type 0 where
+      pub office : new.queue.office ≡ old.queue.office
+      pub clean : HasCleanDisk (tables g new.queue) → HasCleanDisk (tables g old.queue)
+      pub shut : ClosedWhereShut g old.queue → ClosedWhereShut g new.queue
+      pub ran : From g old.queue (λ m k. HasCleanDisk (tables g new.queue) → (arrivals : List Arrival) × Arrive old.clock turns arrivals new.clock
+          × StopsIn (settings old.queue) (record { queue = m; kept = k }) arrivals (replies_of turns) (tables g old.queue) (tables g new.queue))

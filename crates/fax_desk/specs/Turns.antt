@@ -1,32 +1,23 @@
 -- Messages that the queue answers one after the other, each at the moment that a clock gives. They are a session.
-use Rattle.std.specs.Prelude.{◌≡◌, ◌⊎◌, ⊤, ℕ, List, [], ◌∷◌, map, codes}
+use Rattle.std.specs.Prelude.{◌≡◌, ◌⊎◌, ℕ, List, [], ◌∷◌}
 use Rattle.sqlite.specs.State.{State}
 use Rattle.fax_job.specs.declared.refusal.Refusal.TheVariants.{Unavailable}
-use Rattle.fax_ask.specs.Response.{Response, refused_response}
+use Rattle.fax_ask.specs.Response.{refused_response}
 use Rattle.fax_core.specs.Reply.{NoKeys}
 use Rattle.fax_core.specs.Settings.{Settings}
 use Rattle.fax_core.specs.Sound.{Sound}
 use Rattle.fax_http.specs.Conversation.{Turn}
-use Rattle.fax_http.specs.Message.{fields_of, sole, values_of}
 use Rattle.fax_run.specs.Laws.{left_of}
 use Rattle.fax_run.specs.Run.{Start}
 use Rattle.fax_run.specs.Sessions.{IsSession, Nothing, session_of}
 use Rattle.fax_once.specs.Ran.{RunsAsSession}
 use Rattle.fax_run.specs.Verdict.{Verdict, IsVerdict, reply_of}
 use Rattle.fax_run.specs.declared.arrival.Arrival.{Arrival}
-use Rattle.fax_desk.specs.Desk.{IsArrival}
+use Rattle.fax_desk.specs.Desk.{Arrive, IsArrival, replies_of, said_in}
 
--- what a message says of its moment
-abbrev pub said_in : Turn → List ℕ
-said_in turn = sole (values_of (codes "Fax-Moment") (fields_of turn.head))
-
--- these are their arrivals, each at the moment that the clock gave then
+-- these are the arrivals of messages, each at the moment that the clock gave then
 abbrev pub AreArrivals : {C : Type 0} → (C → List ℕ → ℕ → C → Type 0) → C → List Turn → List Arrival → Type 0
-AreArrivals gives clock [] [] = ⊤
-AreArrivals gives clock [] (a ∷ arrivals) = ⊥
-AreArrivals gives clock (turn ∷ turns) [] = ⊥
-AreArrivals {C} gives clock (turn ∷ turns) (a ∷ arrivals) =
-    (moment : ℕ) × (later : C) × gives clock (said_in turn) moment later × IsArrival turn.head turn.body moment a × AreArrivals gives later turns arrivals
+AreArrivals {C} gives clock turns arrivals = (later : C) × Arrive gives clock turns arrivals later
 
 module _ {C : Type 0} (gives : C → List ℕ → ℕ → C → Type 0) (settings : Settings) where
   -- A message is answered as an arrival at the moment that the clock gives: by its verdict, which leads on; or memory or the store gave out, and nothing changes.
@@ -43,10 +34,6 @@ module _ {C : Type 0} (gives : C → List ℕ → ℕ → C → Type 0) (setting
   abbrev pub AreTurns : Start → C → List Turn → Start → Type 0
   AreTurns start clock [] end = end ≡ start
   AreTurns start clock (turn ∷ turns) end = (next : Start) × (later : C) × IsTurn start clock turn next later × AreTurns next later turns end
-
--- what was replied to them
-abbrev pub replies_of : List Turn → List Response
-replies_of turns = map (λ turn. turn.reply) turns
 
 -- such messages are a session: their arrivals, with their replies
 abbrev pub TurnsAreASession : {C : Type 0} → (C → List ℕ → ℕ → C → Type 0) → Type 0

@@ -1,10 +1,13 @@
 //! The queue as what answers messages: each message becomes an arrival at the moment that the clock
 //! gives for it.
 
-ghost use Rattle.std.specs.Prelude.{◌≡◌, ℕ, List};
+ghost use Rattle.std.specs.Prelude.{◌≡◌, ℕ, length, IfSome, List};
 ghost use Rattle.httparse.specs.Grammar.{RequestHead};
+ghost use Rattle.fax_http.specs.Conversation.{Turn};
 ghost use Rattle.fax_http.specs.Cut.{ArePartsOf};
-ghost use Rattle.fax_desk.specs.Desk.{IsArrival};
+ghost use Rattle.fax_http.specs.Joined.{AreMessages};
+ghost use Rattle.fax_run.specs.declared.arrival.Arrival.{Arrival as ArrivalOf};
+ghost use Rattle.fax_desk.specs.Desk.{Arrive, IsArrival};
 
 use fax_ask::{Method, Reply};
 use fax_http::{Clock, Handler, Message};
@@ -48,26 +51,12 @@ impl<C: Clock + Drop, S: Alter> Desk<C, S> {
 }
 
 impl<C: Clock + Drop, S: Alter> Handler for Desk<C, S> {
-    ghost use Rattle.std.specs.Prelude.{◌≡◌, false, IsTrue};
-    ghost use Rattle.sqlite.specs.Held.{state};
-    ghost use Rattle.sqlite.specs.State.{HasCleanDisk};
-    ghost use Rattle.fax_decide.specs.Settings.{settings_of};
-    ghost use Rattle.fax_desk.specs.Desk.{IsHandled};
-    ghost use Rattle.fax_store.specs.Store.{LeavesAlone, Serves};
+    ghost use Rattle.std.specs.Prelude.{[], ◌∷◌};
+    ghost use Rattle.fax_desk.specs.Desk.{HasAnswered};
 
-    // The queue handles the message's arrival at the clock's moment, by the same setup and controls as ever. Where the disk
-    // has returned what was written, it had before. The queue says that its store is shut only where it is. While the
-    // store is open, a crash leaves the last commit alone.
-    ghost answers = { λ old head body reply new.
-        (new.queue.office ≡ old.queue.office)
-        × (HasCleanDisk (state S.Store new.queue.store.conn) → HasCleanDisk (state S.Store old.queue.store.conn))
-        × (IsTrue new.queue.is_shut → HasCleanDisk (state S.Store new.queue.store.conn)
-        → (state S.Store new.queue.store.conn).is_open ≡ false)
-        × (Serves (state S.Store new.queue.store.conn)
-        → LeavesAlone (state S.Store new.queue.store.conn) (state S.Store new.queue.store.conn).committed.trees)
-        × IsHandled (λ said moment. C.gives old.clock said moment new.clock)
-        (settings_of old.queue.office.setup old.queue.office.controls)
-        (state S.Store old.queue.store.conn) head body reply (state S.Store new.queue.store.conn) };
+    ghost answers = { λ old head body reply new. HasAnswered C.gives S.Store old (record { head = head; body = body; reply = reply } ∷ []) new };
+
+    ghost together = { λ old turns new. HasAnswered C.gives S.Store old turns new };
 
     ghost over = { λ desk. desk.queue.is_shut };
 
@@ -77,9 +66,33 @@ impl<C: Clock + Drop, S: Alter> Handler for Desk<C, S> {
         self.queue.handle(self.alloc, &arrival)
     }
 
+    fn answer_all(&mut self, messages: &[Message<'_>]) -> Option<Vec<Reply>> {
+        let arrivals = arrivals_of(self.alloc, &mut self.clock, messages)?;
+        self.queue.batch(self.alloc, &arrivals).ok()
+    }
+
     fn is_over(&self) -> bool {
         self.queue.is_shut()
     }
+}
+
+/// The arrivals of messages, each at the moment that the clock gives then. None without memory for them.
+fn arrivals_of<'b, C: Clock>(
+    alloc: Global,
+    clock: &mut C,
+    messages: &[Message<'b>],
+) -> Option<Vec<Arrival<'b>>>
+    ensures as_many { IfSome result (λ arrivals. length arrivals.items ≡ length messages.now) }
+    ensures arrived { (turns : List Turn) → AreMessages messages.now turns → (arrivals : List ArrivalOf)
+        × Arrive C.gives clock.old turns arrivals clock.new × IfSome result (λ them. them.items ≡ arrivals) }
+{
+    let mut arrivals = Vec::with_capacity(alloc, messages.len()).unwrap_or(Vec::new(alloc));
+    let mut are_whole = true;
+    for message in messages {
+        let moment = clock.moment(message.moment);
+        are_whole &= arrivals.push(arrival_of(message, moment)).is_ok();
+    }
+    if are_whole { Some(arrivals) } else { None }
 }
 
 /// The arrival of a message at that moment.

@@ -7,6 +7,7 @@ pub mod Device
 pub mod Exchange
 pub mod Field
 pub mod Found
+pub mod Joined
 pub mod Laws
 pub mod Message
 pub mod Reply

@@ -1,6 +1,7 @@
 -- What it is to serve a stream: its messages are answered one after the other, and their replies are written in order.
 use Rattle.std.specs.Prelude.{◌≡◌, ◌⊎◌, ℕ, ◌<◌, ◌≤◌, Bool, true, false, List, [], ◌∷◌, ◌++◌, length, Option}
 use Rattle.std.specs.Io.KnownBytes.{IsAtEnd}
+use Rattle.std.specs.List.{flat_map}
 use Rattle.httparse.specs.Grammar.{RequestHead}
 use Rattle.fax_ask.specs.Response.{Response}
 use Rattle.fax_http.specs.declared.device.Watched.{Watched}
@@ -16,6 +17,34 @@ use Rattle.fax_http.specs.Message.{IsTooLarge, IsBad, IsUnfinished, StaysBad}
 -- what a message and its reply may make of a state
 abbrev pub Answering : Type 0 → Type 1
 Answering H = H → RequestHead → List ℕ → Response → H → Type 0
+
+-- what some messages and their replies may make of it that are answered together
+abbrev pub Joining : Type 0 → Type 1
+Joining H = H → List Turn → H → Type 0
+
+-- what may come of messages: of one by itself, and of some that are answered together
+pub record Replying (H : Type 0) : Type 1 where
+  pub one : Answering H
+  pub together : Joining H
+
+abbrev pub replying : {H : Type 0} → Answering H → Joining H → Replying H
+replying one together = record { one = one; together = together }
+
+-- one message is answered, or some together
+abbrev pub AnswersPart : {H : Type 0} → Replying H → H → List Turn → H → Type 0
+AnswersPart answers old part new =
+    ((turn : Turn) × (part ≡ turn ∷ []) × answers.one old turn.head turn.body turn.reply new) ⊎ answers.together old part new
+
+-- these come of one state after the other
+abbrev pub AnswersParts : {H : Type 0} → Replying H → H → List (List Turn) → H → Type 0
+AnswersParts answers old [] new = new ≡ old
+AnswersParts {H} answers old (part ∷ parts) new = (next : H) × AnswersPart answers old part next × AnswersParts answers next parts new
+
+-- so do the replies of these turns, each by itself or some together
+pub record AnswersInParts {H : Type 0} (answers : Replying H) (old : H) (turns : List Turn) (new : H) : Type 0 where
+  pub parts : List (List Turn)
+  pub are : turns ≡ flat_map (λ (part : List Turn). part) parts
+  pub answered : AnswersParts answers old parts new
 
 -- the replies of the turns come of one state after the other
 abbrev pub Answers : {H : Type 0} → Answering H → H → List Turn → H → Type 0

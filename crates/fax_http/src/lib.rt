@@ -10,6 +10,7 @@
 mod answer;
 mod buffer;
 mod clock;
+mod cut;
 mod device;
 mod exchange;
 mod head;
@@ -22,6 +23,7 @@ mod turn;
 pub use answer::{Answer, AnswerFault, read_answer};
 pub use buffer::{BUFFER_LIMIT, Buffer};
 pub use clock::{Clock, MachineClock, SaidClock, moment_of};
+pub use cut::{Cut, post_at};
 pub use device::{ReadFailed, Watched, WriteFailed};
 pub use message::{Broken, Front, Message, split_message};
 pub use outgoing::Outgoing;

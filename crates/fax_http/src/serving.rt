@@ -45,10 +45,16 @@ pub struct Served {
 
 /// Who answers messages.
 pub trait Handler {
+    ghost use Rattle.std.specs.Prelude.{IfSome, length};
+    ghost use Rattle.fax_http.specs.Conversation.{Turn};
     ghost use Rattle.fax_http.specs.Cut.{ArePartsOf};
+    ghost use Rattle.fax_http.specs.Joined.{AreTurnsOf};
 
     // What may come of a message, by its head and body: its reply, and the handler after it.
     ghost answers: { Self → RequestHead → List ℕ → Response → Self → Type 0 };
+
+    // What may come of messages that are answered together.
+    ghost together: { Self → List Turn → Self → Type 0 };
 
     // Whether it answers no more.
     ghost over: { Self → Bool };
@@ -56,6 +62,13 @@ pub trait Handler {
     fn answer(&mut self, message: &Message<'_>) -> Reply
         requires { over self.old ≡ false }
         ensures { (head : RequestHead) (body : List ℕ) → ArePartsOf message.now head body → answers self.old head body result self.new };
+
+    /// Answers messages one after the other, and keeps what they change together: all of it, or nothing. There are no replies
+    /// where each message is to be answered 503.
+    fn answer_all(&mut self, messages: &[Message<'_>]) -> Option<Vec<Reply>>
+        requires { over self.old ≡ false }
+        ensures as_many { IfSome result (λ replies. length replies.items ≡ length messages.now) }
+        ensures answered { (turns : List Turn) → AreTurnsOf messages.now result turns → together self.old turns self.new };
 
     /// Whether it answers no more.
     fn is_over(&self) -> bool

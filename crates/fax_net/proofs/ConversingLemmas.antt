@@ -8,7 +8,7 @@ use Rattle.fax_http.specs.declared.turn.Found.TheVariants as found
 use Rattle.fax_http.specs.Conversation.{Turn, failure_of, spelled_turn, spelled_turns}
 use Rattle.fax_http.specs.Found.{Finds, HasAnswered as HasTurned, NeverBegins}
 use Rattle.fax_http.specs.Message.{IsUnfinished, is_last}
-use Rattle.fax_http.specs.Serving.{Answering}
+use Rattle.fax_http.specs.Serving.{Answering, Replying}
 use Rattle.fax_http.proofs.TurnLemmas.{none_unfinished}
 use Rattle.fax_http.proofs.ServingLemmas.{go_on_one_more, length_one_more, reads_one_more, spelled_one_more}
 use Rattle.fax_net.specs.Deeds.{Admits, HoldsUp}
@@ -49,7 +49,7 @@ last_of_more (first ∷ []) turn = refl
 last_of_more (first ∷ next ∷ turns) turn = last_of_more (next ∷ turns) turn
 
 -- where nothing is pending, all that is owed was taken
-paid_by : (t : Talk) (pending : List ℕ) → owed t ≡ t.took ++ pending → pending ≡ [] → owed t ≡ t.took
+pub paid_by : (t : Talk) (pending : List ℕ) → owed t ≡ t.took ++ pending → pending ≡ [] → owed t ≡ t.took
 paid_by t pending owes none = owes ∙ ap (λ v. t.took ++ v) none ∙ append-nil t.took
 
 -- bytes that aren't none are some
@@ -67,7 +67,7 @@ fails_in t rest TooLarge never = never
 module _ {H : Type 0} (answers : Answering H) (over : H → Bool) (h h₂ : H) (link link₂ : Link) (t : Talk) (bytes : List ℕ)
     (g : IsGoing t link) (none : link.pending ≡ []) (it : HasTurned answers over h h₂ link.said link₂.said bytes) where
   -- the turn is the next one, with all that was owed taken
-  next_is : t.replies ≡ 0 → IsNext t it.turn
+  abbrev pub next_is : t.replies ≡ 0 → IsNext t it.turn
   next_is fresh = record {
     rest = link.said;
     next = link₂.said;
@@ -93,7 +93,7 @@ module _ {H : Type 0} (answers : Answering H) (over : H → Bool) (h h₂ : H) (
   counted_now more = omega (arith, more, g.counted, length_one_more t.turns it.turn)
 
   -- where another message may follow, what is kept is what became of the connection
-  answered_holds : is_last it.turn.head ≡ false → link.is_awaited ≡ false → Keeps (found.Answered bytes) link link₂ true → Holds (acted (Answered it.turn (over h₂)) t) link₂
+  pub answered_holds : is_last it.turn.head ≡ false → link.is_awaited ≡ false → Keeps (found.Answered bytes) link link₂ true → Holds (acted (Answered it.turn (over h₂)) t) link₂
   answered_holds going unseen (has, is, more, same, ends, long) = elim ends [
     | inl (going_on, under) ↦ held (acted (Answered it.turn (over h₂)) t) link₂ Open going_on (record {
       is_open = g.is_open;
@@ -121,7 +121,7 @@ module _ {H : Type 0} (answers : Answering H) (over : H → Bool) (h h₂ : H) (
       few = omega (arith, g.goes_on.below, g.counted)
 
   -- where none may follow, it is too
-  last_holds : (is_last it.turn.head ≡ true) ⊎ (over h₂ ≡ true) → Keeps (found.Last bytes) link link₂ true → Holds (acted (Answered it.turn (over h₂)) t) link₂
+  pub last_holds : (is_last it.turn.head ≡ true) ⊎ (over h₂ ≡ true) → Keeps (found.Last bytes) link link₂ true → Holds (acted (Answered it.turn (over h₂)) t) link₂
   last_holds why (has, is, ending, long) = held (acted (Answered it.turn (over h₂)) t) link₂ Ending ending (record {
     is_open = g.is_open;
     done = done why;
@@ -152,24 +152,24 @@ not_full true true false e d a = absurd cc
 not_full true false asks e d a = absurd cc
 not_full false due asks e d a = refl
 
-module _ {P H : Type 0} (did : P → Step → P → Type 0) (answers : Answering H) (over : H → Bool) (count : ℕ) (place : ℕ) (below : place < 64) (start : P) (first : H) (earlier : List Step)
+module _ {P H : Type 0} (did : P → Step → P → Type 0) (answers : Replying H) (over : H → Bool) (count : ℕ) (place : ℕ) (below : place < 64) (start : P) (first : H) (earlier : List Step)
     (p : P) (h : H) (runs : Runs did answers over count start first earlier p h) (link : Link) (kept : Holds (talk place earlier) link) where
   module _ (h₂ : H) (link₂ : Link) (on₁ : over h ≡ false) where
     -- the history goes on by what was found and kept of it
-    found_goes : (f : Found) (moved : Bool) → is_due link ≡ true → (asks_for_listing link.said ≡ true → untaken earlier < room) → (talk place earlier).replies ≡ 0 → Finds answers over h h₂ link.said link₂.said f → Keeps f link link₂ moved
+    found_goes : (f : Found) (moved : Bool) → is_due link ≡ true → (asks_for_listing link.said ≡ true → untaken earlier < room) → (talk place earlier).replies ≡ 0 → Finds answers.one over h h₂ link.said link₂.said f → Keeps f link link₂ moved
         → GoesFrom did answers over count place p h₂ link₂ 0 0 moved (λ t. ⊤) start first earlier
     found_goes (found.Answered bytes) moved due roomy fresh (it, going, on) keeps =
         let parts = due_parts link due in
         let g : IsGoing (talk place earlier) link = holds (talk place earlier) link Open parts.0 kept in
         goes_by did answers over count place below start first earlier (Answered it.turn (over h₂)) p h₂ link₂ 0 0 moved (λ t. ⊤) runs.right runs.happens
-        (h, runs.answered, on₁, it.step, refl) (next_is answers over h h₂ link link₂ (talk place earlier) bytes g parts.1 it fresh) (link.said, g.goes_on, roomy)
-        (answered_holds answers over h h₂ link link₂ (talk place earlier) bytes g parts.1 it going parts.2 (refl, keeps.1, keeps.2, keeps.3, keeps.4, keeps.5)) refl keeps.0 tt
+        (h, runs.answered, on₁, it.step, refl) (next_is answers.one over h h₂ link link₂ (talk place earlier) bytes g parts.1 it fresh) (link.said, g.goes_on, roomy)
+        (answered_holds answers.one over h h₂ link link₂ (talk place earlier) bytes g parts.1 it going parts.2 (refl, keeps.1, keeps.2, keeps.3, keeps.4, keeps.5)) refl keeps.0 tt
     found_goes (found.Last bytes) moved due roomy fresh (it, why) keeps =
         let parts = due_parts link due in
         let g : IsGoing (talk place earlier) link = holds (talk place earlier) link Open parts.0 kept in
         goes_by did answers over count place below start first earlier (Answered it.turn (over h₂)) p h₂ link₂ 0 0 moved (λ t. ⊤) runs.right runs.happens
-        (h, runs.answered, on₁, it.step, refl) (next_is answers over h h₂ link link₂ (talk place earlier) bytes g parts.1 it fresh) (link.said, g.goes_on, roomy)
-        (last_holds answers over h h₂ link link₂ (talk place earlier) bytes g parts.1 it why (refl, keeps.1, keeps.2, keeps.3)) refl keeps.0 tt
+        (h, runs.answered, on₁, it.step, refl) (next_is answers.one over h h₂ link link₂ (talk place earlier) bytes g parts.1 it fresh) (link.said, g.goes_on, roomy)
+        (last_holds answers.one over h h₂ link link₂ (talk place earlier) bytes g parts.1 it why (refl, keeps.1, keeps.2, keeps.3)) refl keeps.0 tt
     found_goes (found.Refused bytes) moved due roomy fresh f keeps =
         let parts = due_parts link due in
         let g : IsGoing (talk place earlier) link = holds (talk place earlier) link Open parts.0 kept in
@@ -192,10 +192,10 @@ module _ {P H : Type 0} (did : P → Step → P → Type 0) (answers : Answering
         })) keeps.0 tt)
 
     -- the same whether a message was due or not
-    pub goes_answered : (is_full moved : Bool) → (is_full ≡ false → is_due link ≡ true → untaken earlier < room) → (talk place earlier).replies ≡ 0
-        → HasAnswered answers over h h₂ is_full link link₂ moved → GoesFrom did answers over count place p h₂ link₂ 0 0 moved (λ t. ⊤) start first earlier
+    pub goes_answered : (is_full moved : Bool) → (is_full ≡ false → is_due link ≡ true → untaken earlier < room) → (is_due link ≡ true → (talk place earlier).replies ≡ 0)
+        → HasAnswered answers.one over h h₂ is_full link link₂ moved → GoesFrom did answers over count place p h₂ link₂ 0 0 moved (λ t. ⊤) start first earlier
     goes_answered is_full moved roomy fresh (inr (due, unheld, f, finds, keeps)) =
-        found_goes f moved due (λ asks. roomy (not_full is_full (is_due link) (asks_for_listing link.said) unheld due asks) due) fresh finds keeps
+        found_goes f moved due (λ asks. roomy (not_full is_full (is_due link) (asks_for_listing link.said) unheld due asks) due) (fresh due) finds keeps
     goes_answered is_full moved roomy fresh (inl (none, still, same, unmoved)) =
         subst (λ v. GoesFrom did answers over count place p v link₂ 0 0 moved (λ t. ⊤) start first earlier) (sym same)
         (goes_still did answers over count place below start first earlier p h runs link₂ 0 moved (λ t. ⊤) (subst (λ l. Holds (talk place earlier) l) (sym still) kept) unmoved tt)
@@ -233,6 +233,11 @@ module _ {P H : Type 0} (did : P → Step → P → Type 0) (answers : Answering
     goes_ended ends = ended_goes link.stage refl ends
 
 -- ---- all that is done for a connection at its turn
+
+-- where a message is due after a read, nothing was pending before it
+pub nothing_pending : (read : Bool) (link link₂ : Link) → (read ≡ false → link₂ ≡ link) → (read ≡ true → awaits link ≡ true) → is_due link₂ ≡ true → link.pending ≡ []
+nothing_pending true link link₂ still paid due = (awaits_parts link (paid refl)).1
+nothing_pending false link link₂ still paid due = (due_parts link (sym (ap is_due (still refl)) ∙ due)).1
 
 neither : (a b : Bool) → (a || b) ≡ false → (a ≡ false) × (b ≡ false)
 neither true b e = absurd cc
@@ -330,7 +335,7 @@ awaited_holds t link link₂ (inr (due, unsaid, awaited)) h =
       sized = g.sized;
     }))
 
-module _ {P H : Type 0} (did : P → Step → P → Type 0) (answers : Answering H) (over : H → Bool) (count : ℕ) (place : ℕ) (start : P) (first : H) (earlier : List Step) (p : P) (h : H) where
+module _ {P H : Type 0} (did : P → Step → P → Type 0) (answers : Replying H) (over : H → Bool) (count : ℕ) (place : ℕ) (start : P) (first : H) (earlier : List Step) (p : P) (h : H) where
   -- the history goes on as it did where the next message is awaited
   pub goes_awaiting : (link link₂ : Link) (moved : Bool) (Wanted : Talk → Type 0) → GoesFrom did answers over count place p h link 0 0 moved Wanted start first earlier
       → AwaitsNext link link₂ → GoesFrom did answers over count place p h link₂ 0 0 moved Wanted start first earlier
@@ -374,9 +379,9 @@ held_still t link is g = held (acted Held t) link Open is (record {
 failed_holds : (t : Talk) (link : Link) → link.stage ≡ Free → Holds (acted Failed t) link
 failed_holds t link is = held (acted Failed t) link Free is refl
 
-module _ {P H : Type 0} (did : P → Step → P → Type 0) (answers : Answering H) (over : H → Bool) (count : ℕ) (place : ℕ) (start : P) (first : H) (earlier : List Step)
+module _ {P H : Type 0} (did : P → Step → P → Type 0) (answers : Replying H) (over : H → Bool) (count : ℕ) (place : ℕ) (start : P) (first : H) (earlier : List Step)
     (p : P) (h h₂ : H) (is_full : Bool) (l₀ l₁ l₂ l₃ l₄ l₅ l₆ : Link) (c a r w e d : Bool) (before : Talk)
-    (answered : HasAnswered answers over h h₂ is_full l₀ l₁ a) (refused : HasEnded l₁ l₂ r) (written : w ≡ false → l₃ ≡ l₂) (left : e ≡ false → l₄ ≡ l₃)
+    (answered : HasAnswered answers.one over h h₂ is_full l₀ l₁ a) (refused : HasEnded l₁ l₂ r) (written : w ≡ false → l₃ ≡ l₂) (left : e ≡ false → l₄ ≡ l₃)
     (there : c ≡ false → ¬ (l₀.stage ≡ Free)) (gone : e ≡ false → is_done l₃ ≡ false) (next : AwaitsNext l₄ l₅) (read : d ≡ false → l₆ ≡ l₅)
     (g : GoesFrom did answers over count place p h₂ l₆ 0 0 (((((c || a) || r) || w) || e) || d) (HasTaken l₅ d before) start first earlier)
     (tried : w ≡ false → e ≡ false → d ≡ false → is_owing l₂ ≡ true → (talk place g.later).is_blocked ≡ true) where
@@ -404,7 +409,7 @@ module _ {P H : Type 0} (did : P → Step → P → Type 0) (answers : Answering
     settled undue may_come =
         let ends = ended_none l₁.stage l₁ l₂ r refl refused two.1 undue in
         let as_left : l₆ ≡ l₄ = read five.1 ∙ next_still l₄ l₅ next (ap is_due as_ended ∙ ends.1) in
-        let same_stage = answered_stage answers over h h₂ is_full l₀ l₁ a answered one.1 in
+        let same_stage = answered_stage answers.one over h h₂ is_full l₀ l₁ a answered one.1 in
         let here = ended_there l₁.stage l₁ l₂ r refl refused (λ is. there one.0 (sym same_stage ∙ is)) in
         quiet (talk place g.later) l₆ g.holds (λ is. here (sym (ap (λ l. l.stage) (as_left ∙ as_ended)) ∙ is)) (λ is. ends.0 (sym (ap (λ l. l.stage) (as_left ∙ as_ended)) ∙ is)) (ap is_due (as_left ∙ as_ended) ∙ ends.1)
         (ap is_done (as_left ∙ left four.1) ∙ gone four.1) (λ waits. g.also.0 five.1 (sym (ap awaits (read five.1)) ∙ waits))
@@ -418,14 +423,14 @@ module _ {P H : Type 0} (did : P → Step → P → Type 0) (answers : Answering
 
     -- where nothing moved and it isn't to be held, there is nothing to do
     quietly : is_held is_full l₆ ≡ false → (may_come : Bool) → IsQuiet may_come (talk place g.later)
-    quietly unheld may_come = elim (answered_none answers over h h₂ is_full l₀ l₁ a answered one.1) [
+    quietly unheld may_come = elim (answered_none answers.one over h h₂ is_full l₀ l₁ a answered one.1) [
       | inl undue ↦ settled undue may_come
       | inr (wants, still) ↦ absurd (let never = sym unheld ∙ (ap (is_held is_full) (left_alone wants still) ∙ wants) in cc)
     ]
 
     -- one that is to be held at the end was so before it was looked for
     held_before : is_held is_full l₆ ≡ true → l₆ ≡ l₀
-    held_before held = elim (answered_none answers over h h₂ is_full l₀ l₁ a answered one.1) [
+    held_before held = elim (answered_none answers.one over h h₂ is_full l₀ l₁ a answered one.1) [
       | inl undue ↦ absurd (
           let ends = ended_none l₁.stage l₁ l₂ r refl refused two.1 undue in
           let as_left : l₆ ≡ l₄ = read five.1 ∙ next_still l₄ l₅ next (ap is_due as_ended ∙ ends.1) in
@@ -540,7 +545,7 @@ admitted_holds t link₂ unused = held (acted Came t) link₂ Open unused.stage_
   sized = λ some. absurd (let none = sym some ∙ ap is_none unused.pending in cc);
 })
 
-module _ {P H : Type 0} (did : P → Step → P → Type 0) (answers : Answering H) (over : H → Bool) (count : ℕ) (place : ℕ) (below : place < 64) (start : P) (first : H) (earlier : List Step)
+module _ {P H : Type 0} (did : P → Step → P → Type 0) (answers : Replying H) (over : H → Bool) (count : ℕ) (place : ℕ) (below : place < 64) (start : P) (first : H) (earlier : List Step)
     (p p₂ : P) (h : H) (runs : Runs did answers over count start first earlier p h) (link link₂ : Link) (free : link.stage ≡ Free) (kept : Holds (talk place earlier) link)
     (left left₂ : ℕ) (moved : Bool) where
   -- nobody is there yet
@@ -565,7 +570,7 @@ module _ {P H : Type 0} (did : P → Step → P → Type 0) (answers : Answering
       (subst (λ l. Holds (talk place earlier) l) (sym still) kept) is (inr (inl (closed, inl (ap (nat_lt 0) none))))))
 
 -- where nobody came, as many are still to come, and what is known goes over
-pub goes_with : {P H : Type 0} (did : P → Step → P → Type 0) (answers : Answering H) (over : H → Bool) (count : ℕ) (place : ℕ) (start : P) (first : H) (earlier : List Step)
+pub goes_with : {P H : Type 0} (did : P → Step → P → Type 0) (answers : Replying H) (over : H → Bool) (count : ℕ) (place : ℕ) (start : P) (first : H) (earlier : List Step)
     (p : P) (h : H) (link : Link) (left : ℕ) (moved : Bool) (Wanted Wanted₂ : Talk → Type 0) → ((t : Talk) → Wanted t → Wanted₂ t)
     → GoesFrom did answers over count place p h link 0 0 moved Wanted start first earlier → GoesFrom did answers over count place p h link left left moved Wanted₂ start first earlier
 goes_with did answers over count place start first earlier p h link left moved Wanted Wanted₂ so g = record {

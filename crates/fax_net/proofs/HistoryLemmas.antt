@@ -2,7 +2,7 @@
 use Rattle.std.proofs.Common.{◌≡◌, ◌⊎◌, ℕ, ◌+◌, ◌<◌, ◌≤◌, Bool, true, false, ◌||◌, List, ◌∷◌, refl, ap, sym, ◌∙◌, subst, inl, inr, arith}
 use Rattle.std.proofs.lemmas.Bool.{eq-eqb}
 use Rattle.std.specs.Prelude.{if◌then◌else◌}
-use Rattle.fax_http.specs.Serving.{Answering}
+use Rattle.fax_http.specs.Serving.{Replying}
 use Rattle.fax_net.specs.Deeds.{Acts, Does, TakesIn, Writes, is_deed, moves}
 use Rattle.fax_net.specs.History.{Act, Answered, AreAnswered, At, Came, Dry, Ended, Failed, Fits, Happens, HasRoom, Held, IsRight, Left, Missed, Refused, Said, Step, Talk, Took, Waits, acted, comings, talk}
 use Rattle.fax_net.specs.Link.{Holds, awaits, is_owing}
@@ -113,7 +113,7 @@ module _ {P : Type 0} (did : P → Step → P → Type 0) (start p p₂ : P) (ea
   happens_deed (Refused broken) e h d = absurd cc
 
 -- a deed answers nothing
-pub answered_deed : {H : Type 0} (answers : Answering H) (over : H → Bool) (first h : H) (earlier : List Step) (place : ℕ) (act : Act) → is_deed act ≡ true
+pub answered_deed : {H : Type 0} (answers : Replying H) (over : H → Bool) (first h : H) (earlier : List Step) (place : ℕ) (act : Act) → is_deed act ≡ true
     → AreAnswered answers over first earlier h → AreAnswered answers over first (At place act ∷ earlier) h
 answered_deed answers over first h earlier place Came e a = absurd cc
 answered_deed answers over first h earlier place Missed e a = absurd cc
@@ -175,7 +175,7 @@ comings_grow earlier place (Refused broken) = omega arith
 
 -- ---- one place
 
-module _ {P H : Type 0} (did : P → Step → P → Type 0) (answers : Answering H) (over : H → Bool) (count : ℕ) (place : ℕ) (below : place < 64) (start : P) (first : H) (earlier : List Step) where
+module _ {P H : Type 0} (did : P → Step → P → Type 0) (answers : Replying H) (over : H → Bool) (count : ℕ) (place : ℕ) (below : place < 64) (start : P) (first : H) (earlier : List Step) where
   -- one act more
   pub goes_by : (act : Act) (p₂ : P) (h₂ : H) (link₂ : Link) (left left₂ : ℕ) (moved : Bool) (Wanted : Talk → Type 0)
       → IsRight count earlier → Happens did start (At place act ∷ earlier) p₂ → AreAnswered answers over first (At place act ∷ earlier) h₂
@@ -264,7 +264,7 @@ either : (a b : Bool) → (a || b) ≡ true → (a ≡ true) ⊎ (b ≡ true)
 either true b e = inl refl
 either false b e = inr e
 
-module _ {P H : Type 0} (did : P → Step → P → Type 0) (answers : Answering H) (over : H → Bool) (count : ℕ) (place : ℕ) (start : P) (first : H) (earlier : List Step)
+module _ {P H : Type 0} (did : P → Step → P → Type 0) (answers : Replying H) (over : H → Bool) (count : ℕ) (place : ℕ) (start : P) (first : H) (earlier : List Step)
     (p₁ p₂ : P) (h₁ h₂ : H) (link₁ link₂ : Link) (moved₁ moved₂ : Bool) (Wanted₁ Wanted₂ : Talk → Type 0) where
   -- what goes on at one place and then again goes on
   pub goes_both : (g : GoesFrom did answers over count place p₁ h₁ link₁ 0 0 moved₁ Wanted₁ start first earlier)

@@ -1,10 +1,10 @@
 -- What each connection gets is its own.
 use Rattle.std.proofs.Common.{◌≡◌, ℕ, Bool, true, false, List, [], ◌∷◌, ◌++◌, nat_eq, refl, ap, sym, ◌∙◌, subst, inl, inr, append_assoc, arith}
 use Rattle.std.proofs.lemmas.Bool.{eqb-true}
-use Rattle.std.specs.Prelude.{if◌then◌else◌}
-use Rattle.fax_http.specs.Conversation.{failure_of, spelled_turn}
+use Rattle.std.specs.Prelude.{IfSome, None, Option, Some, get_or, if◌then◌else◌}
+use Rattle.fax_http.specs.Conversation.{Turn, failure_of, spelled_turn}
 use Rattle.fax_http.proofs.ServingLemmas.{length_one_more, reads_more, reads_one_more}
-use Rattle.fax_net.specs.History.{Act, Answered, At, Came, Dry, Ended, Failed, Fits, Held, Left, Looked, Missed, Refused, Said, Step, Talk, Took, Waits, acted, talk}
+use Rattle.fax_net.specs.History.{Act, Answered, At, Came, Dry, Ended, Failed, Fits, Held, Left, Looked, MayJoin, Missed, Refused, Said, Step, Talk, Together, Took, Waits, acted, joined, talk}
 use Rattle.fax_net.specs.Laws.{EachItsOwn, IsItsOwn}
 use Rattle.fax_net.proofs.ConversingLemmas.{owed_more, owed_refused}
 
@@ -63,10 +63,17 @@ step_own other place act earlier fits own = by (nat_eq other place) refl
         (acted_own act (talk place earlier) (subst (λ k. Fits act (talk k earlier)) (eqb-true other place e) fits) own)
     by false e = subst (λ (v : Bool). IsItsOwn (if v then acted act (talk place earlier) else talk place earlier)) (sym e) own
 
+-- where its next message is answered together with others, too
+joined_own : (turn : Option Turn) (is_over : Bool) (t : Talk) → IfSome turn (MayJoin t) → IsItsOwn t → IsItsOwn (joined turn is_over t)
+joined_own None is_over t may own = own
+joined_own (Some turn) is_over t may own = acted_own (Answered turn is_over) t may.next own
+
 -- what each connection gets is its own, at each place of a history that fits
 pub each_its_own : EachItsOwn
 each_its_own count [] place right = record { rest = []; reads = refl; going = inl refl; within = omega arith; left = []; owes = refl }
 each_its_own count (At other act ∷ earlier) place (right, below, fits, has_room) = step_own other place act earlier fits (each_its_own count earlier place right)
+each_its_own count (Together turns is_over ∷ earlier) place (right, within, may) =
+    joined_own (get_or turns place None) is_over (talk place earlier) (may place) (each_its_own count earlier place right)
 each_its_own count (Looked is_busy may_come ∷ earlier) place (right, may, attended) =
     let own = each_its_own count earlier place right in
     record { rest = own.rest; reads = own.reads; going = own.going; within = own.within; left = own.left; owes = own.owes }

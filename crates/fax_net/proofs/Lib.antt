@@ -1,4 +1,5 @@
 mod ConversingLemmas
+mod JoiningLemmas
 mod HistoryLemmas
 mod LawLemmas
 mod LinkLemmas

@@ -2,13 +2,18 @@
 use Rattle.std.proofs.Common.{◌≡◌, ℕ, ◌+◌, ◌-◌, ◌^◌, ◌<◌, ◌≤◌, Bool, true, false, ◌||◌, List, [], ◌∷◌, length, get_or, set, refl, ap, sym, ◌∙◌, subst, inl, inr, arith, length-set, get_or-set_same, get_or-set_other}
 use Rattle.std.proofs.lemmas.Bool.Decides.{nat_tests}
 use Rattle.std.specs.Prelude.{nat_lt}
-use Rattle.fax_http.specs.Serving.{Answering}
+use Rattle.fax_http.specs.Serving.{Replying}
 use Rattle.fax_net.specs.History.{GoesOn, IsAttended, IsDone, Looked, Step, Talk, comings, looked, looks, talk}
+use Rattle.fax_net.specs.Deeds.{TakesIn, Writes}
+use Rattle.fax_net.specs.Joining.{Joins}
 use Rattle.fax_net.specs.Link.{HasSaidAll, Holds, IsEnding, IsGoing}
-use Rattle.fax_net.specs.Many.{AllHold, GoesFrom, GoesRound, Moves, Rounds, Runs, ServesMany}
+use Rattle.fax_net.specs.Lists.{is_none}
+use Rattle.fax_net.specs.Many.{AllHold, AreFresh, GoesFrom, GoesReady, GoesRound, Moves, Readies, Rounds, Runs, ServesMany}
 use Rattle.fax_net.specs.declared.link.Link.{Link}
 use Rattle.fax_net.specs.declared.link.Stage.{Stage}
 use Rattle.fax_net.specs.declared.link.Stage.TheVariants.{Free, Open, Ended, Ending}
+use Rattle.fax_net.proofs.HistoryLemmas.{goes_takes, goes_writes}
+use Rattle.fax_net.proofs.JoiningLemmas.{goes_joined}
 use Rattle.fax_net.proofs.LinkLemmas.{held, holds}
 use Rattle.fax_net.proofs.ListLemmas.{same_or}
 
@@ -54,7 +59,7 @@ hold_set earlier later links place link all others within here k d below = elim 
       (subst (λ v. Holds (talk k earlier) v) (sym (get_or-set_other links place k link d (λ e. unlike (sym e)))) (all k d (omega (arith, below, length-set {A = Link}))))
 ]
 
-module _ {P H : Type 0} (did : P → Step → P → Type 0) (answers : Answering H) (over : H → Bool) (count : ℕ) where
+module _ {P H : Type 0} (did : P → Step → P → Type 0) (answers : Replying H) (over : H → Bool) (count : ℕ) where
   -- the places in front had their turn
   pub record RoundTo (place : ℕ) (peers : P) (handler : H) (links : List Link) (left₀ left : ℕ) (is_busy : Bool) (start : P) (first : H) (earlier : List Step) : Type 0 where
     pub later : List Step
@@ -62,14 +67,14 @@ module _ {P H : Type 0} (did : P → Step → P → Type 0) (answers : Answering
     pub holds : AllHold later links
     pub left_is : comings later + left ≡ comings earlier + left₀
     pub looks_are : looks later ≡ looks earlier
-    pub fresh : (k : ℕ) → place ≤ k → (talk k later).replies ≡ 0
-    pub attended : (k : ℕ) → k < place → IsAttended is_busy (nat_lt 0 left) (talk k later)
+    pub fresh : (k : ℕ) (d : Link) → place ≤ k → k < length links → is_none (get_or links k d).pending ≡ true → (talk k later).replies ≡ 0
+    pub attended : over handler ≡ false → (k : ℕ) → k < place → IsAttended is_busy (nat_lt 0 left) (talk k later)
 
-module _ {P H : Type 0} (did : P → Step → P → Type 0) (answers : Answering H) (over : H → Bool) where
+module _ {P H : Type 0} (did : P → Step → P → Type 0) (answers : Replying H) (over : H → Bool) where
   abbrev pub RoundsTo : ℕ → P → P → H → H → List Link → List Link → ℕ → ℕ → Bool → Type 0
   RoundsTo place peers₀ peers handler₀ handler links₀ links left₀ left is_busy =
       (count : ℕ) (start : P) (first : H) (earlier : List Step) → Runs did answers over count start first earlier peers₀ handler₀ → AllHold earlier links₀
-      → ((k : ℕ) → (talk k earlier).replies ≡ 0) → RoundTo did answers over count place peers handler links left₀ left is_busy start first earlier
+      → AreFresh earlier links₀ → RoundTo did answers over count place peers handler links left₀ left is_busy start first earlier
 
   -- no place had its turn yet
   pub round_begins : (peers : P) (handler : H) (links : List Link) (left : ℕ) → RoundsTo 0 peers peers handler handler links links left left false
@@ -79,48 +84,132 @@ module _ {P H : Type 0} (did : P → Step → P → Type 0) (answers : Answering
     holds = all;
     left_is = refl;
     looks_are = refl;
-    fresh = λ k within. fresh k;
-    attended = λ k below. absurd (omega (arith, below));
+    fresh = λ k d after within. fresh k d within;
+    attended = λ on k below. absurd (omega (arith, below));
   }
 
   module _ (place : ℕ) (peers₀ peers peers₂ : P) (handler₀ handler handler₂ : H) (links₀ links : List Link) (link₂ : Link) (left₀ left left₂ : ℕ) (is_busy moved : Bool) (d : Link) where
     -- one place more had its turn
-    pub round_next : (Known : List Step → Type 0) → RoundsTo place peers₀ peers handler₀ handler links₀ links left₀ left is_busy → place < 64 → length links ≡ 64
+    pub round_next : (Known : List Step → Type 0) → over handler ≡ false → RoundsTo place peers₀ peers handler₀ handler links₀ links left₀ left is_busy → place < 64 → length links ≡ 64
         → ((history : List Step) → AllHold history links → Known history)
         → Moves did answers over place peers peers₂ handler handler₂ (get_or links place d) link₂ left left₂ Known moved (IsAttended moved (nat_lt 0 left₂))
         → RoundsTo (place + 1) peers₀ peers₂ handler₀ handler₂ links₀ (set links place link₂) left₀ left₂ (is_busy || moved)
-    round_next Known far below size known moves count start first earlier runs all fresh =
+    round_next Known was_on far below size known moves count start first earlier runs all fresh =
         let r = far count start first earlier runs all fresh in
         let g : GoesFrom did answers over count place peers₂ handler₂ link₂ left left₂ moved (IsAttended moved (nat_lt 0 left₂)) start first r.later =
-        moves count start first r.later r.runs below (r.holds place d (omega (arith, below, size))) (r.fresh place (omega arith)) (known r.later r.holds) in
+        moves count start first r.later r.runs below (r.holds place d (omega (arith, below, size))) (r.fresh place d (omega arith) (omega (arith, below, size))) (known r.later r.holds) in
         record {
           later = g.later;
           runs = g.runs;
           holds = hold_set r.later g.later links place link₂ r.holds g.others (omega (arith, below, size)) g.holds;
           left_is = omega (arith, g.left_is, r.left_is);
           looks_are = g.looks_are ∙ r.looks_are;
-          fresh = λ k within. ap (λ t. t.replies) (g.others k (λ e. omega (arith, e, within))) ∙ r.fresh k (omega (arith, within));
-          attended = λ k under. elim (same_or place k) [
+          fresh = λ k e after within none.
+              let unlike : ¬ (place ≡ k) = (λ is. omega (arith, is, after)) in
+              let still = get_or-set_other links place k link₂ e (λ is. unlike (sym is)) in
+              ap (λ t. t.replies) (g.others k unlike)
+              ∙ r.fresh k e (omega (arith, after)) (omega (arith, within, length-set {A = Link})) (ap (λ (l : Link). is_none l.pending) (sym still) ∙ none);
+          attended = λ on k under. elim (same_or place k) [
             | inl is ↦ subst (λ j. IsAttended (is_busy || moved) (nat_lt 0 left₂) (talk j g.later)) is (attended_behind is_busy moved (nat_lt 0 left₂) (talk place g.later) g.also)
             | inr unlike ↦ subst (λ t. IsAttended (is_busy || moved) (nat_lt 0 left₂) t) (sym (g.others k unlike))
                 (attended_later (is_busy || moved) (nat_lt 0 left) (nat_lt 0 left₂) (talk k r.later) (none_later left left₂ (omega (arith, g.left_is, g.grown)))
-                (attended_or is_busy moved (nat_lt 0 left) (talk k r.later) (r.attended k (below_next k place under unlike))))
+                (attended_or is_busy moved (nat_lt 0 left) (talk k r.later) (r.attended was_on k (below_next k place under unlike))))
           ];
         }
 
   module _ (place : ℕ) (peers₀ peers : P) (handler₀ handler : H) (links₀ links : List Link) (left₀ left : ℕ) (is_busy : Bool)
       (far : RoundsTo place peers₀ peers handler₀ handler links₀ links left₀ left is_busy) where
-    -- where who answers is over, the round is
-    pub round_over : (busy : Bool) → over handler ≡ true → Rounds did answers over peers₀ peers handler₀ handler links₀ links left₀ left busy
-    round_over busy is count start first earlier runs all fresh =
-        let r = far count start first earlier runs all fresh in
-        record { later = r.later; runs = r.runs; holds = r.holds; left_is = r.left_is; looks_are = r.looks_are; attended = λ on. absurd (let never = sym is ∙ on in cc) }
-
     -- where all 64 places had their turn, the round is over
     pub round_ends : 64 ≤ place → Rounds did answers over peers₀ peers handler₀ handler links₀ links left₀ left is_busy
     round_ends all_of count start first earlier runs all fresh =
         let r = far count start first earlier runs all fresh in
-        record { later = r.later; runs = r.runs; holds = r.holds; left_is = r.left_is; looks_are = r.looks_are; attended = λ on k below. r.attended k (omega (arith, below, all_of)) }
+        record { later = r.later; runs = r.runs; holds = r.holds; left_is = r.left_is; looks_are = r.looks_are; attended = λ on k below. r.attended on k (omega (arith, below, all_of)) }
+
+module _ {P H : Type 0} (did : P → Step → P → Type 0) (answers : Replying H) (over : H → Bool) (place : ℕ) (peers₀ peers peers₂ : P) (handler₀ handler : H) (links₀ links : List Link) (link₂ : Link)
+    (left₀ left : ℕ) (is_busy moved : Bool) (d : Link) where
+  -- where who answers is over, what is owed to one place more is written
+  pub round_written : over handler ≡ true → RoundsTo did answers over place peers₀ peers handler₀ handler links₀ links left₀ left is_busy → place < 64 → length links ≡ 64
+      → Writes did place peers peers₂ (get_or links place d) link₂ moved
+      → RoundsTo did answers over (place + 1) peers₀ peers₂ handler₀ handler links₀ (set links place link₂) left₀ left is_busy
+  round_written is far below size writes count start first earlier runs all fresh =
+      let r = far count start first earlier runs all fresh in
+      let g = goes_writes did answers over count place below start first r.later peers handler r.runs peers₂ (get_or links place d) link₂ moved writes (r.holds place d (omega (arith, below, size))) in
+      record {
+        later = g.later;
+        runs = g.runs;
+        holds = hold_set r.later g.later links place link₂ r.holds g.others (omega (arith, below, size)) g.holds;
+        left_is = omega (arith, g.left_is, r.left_is);
+        looks_are = g.looks_are ∙ r.looks_are;
+        fresh = λ k e after within none.
+            let unlike : ¬ (place ≡ k) = (λ same. omega (arith, same, after)) in
+            let still = get_or-set_other links place k link₂ e (λ same. unlike (sym same)) in
+            ap (λ t. t.replies) (g.others k unlike)
+            ∙ r.fresh k e (omega (arith, after)) (omega (arith, within, length-set {A = Link})) (ap (λ (l : Link). is_none l.pending) (sym still) ∙ none);
+        attended = λ on. absurd (let never = sym is ∙ on in cc);
+      }
+
+-- ---- what is ready
+
+module _ {P H : Type 0} (did : P → Step → P → Type 0) (answers : Replying H) (over : H → Bool) where
+  -- the places in front were read from
+  pub record HeardTo (count place : ℕ) (peers : P) (handler : H) (links : List Link) (start : P) (first : H) (earlier : List Step) : Type 0 where
+    pub later : List Step
+    pub runs : Runs did answers over count start first later peers handler
+    pub holds : AllHold later links
+    pub comings_are : comings later ≡ comings earlier
+    pub looks_are : looks later ≡ looks earlier
+    pub fresh : (k : ℕ) → (talk k later).replies ≡ 0
+
+  abbrev pub HearsTo : ℕ → P → P → H → List Link → List Link → Type 0
+  HearsTo place peers₀ peers handler links₀ links =
+      (count : ℕ) (start : P) (first : H) (earlier : List Step) → Runs did answers over count start first earlier peers₀ handler → AllHold earlier links₀
+      → ((k : ℕ) → (talk k earlier).replies ≡ 0) → HeardTo count place peers handler links start first earlier
+
+  -- none was yet
+  pub hears_begin : (peers : P) (handler : H) (links : List Link) → HearsTo 0 peers peers handler links links
+  hears_begin peers handler links count start first earlier runs all fresh = record { later = earlier; runs = runs; holds = all; comings_are = refl; looks_are = refl; fresh = fresh }
+
+  -- one place more was
+  pub hears_next : (place : ℕ) (peers₀ peers peers₂ : P) (handler : H) (links₀ links : List Link) (link₂ : Link) (moved : Bool) (d : Link) → HearsTo place peers₀ peers handler links₀ links
+      → place < 64 → length links ≡ 64 → TakesIn did place peers peers₂ (get_or links place d) link₂ moved → HearsTo (place + 1) peers₀ peers₂ handler links₀ (set links place link₂)
+  hears_next place peers₀ peers peers₂ handler links₀ links link₂ moved d far below size takes count start first earlier runs all fresh =
+      let r = far count start first earlier runs all fresh in
+      let g = goes_takes did answers over count place below start first r.later peers handler r.runs peers₂ (get_or links place d) link₂ moved takes (r.holds place d (omega (arith, below, size))) in
+      record {
+        later = g.later;
+        runs = g.runs;
+        holds = hold_set r.later g.later links place link₂ r.holds g.others (omega (arith, below, size)) g.holds;
+        comings_are = omega (arith, g.left_is, r.comings_are);
+        looks_are = g.looks_are ∙ r.looks_are;
+        fresh = λ k. elim (same_or place k) [
+          | inl is ↦ subst (λ j. (talk j g.later).replies ≡ 0) is (g.also.1 ∙ r.fresh place)
+          | inr unlike ↦ ap (λ t. t.replies) (g.others k unlike) ∙ r.fresh k
+        ];
+      }
+
+  -- and then what may be answered together was
+  pub readies : (place : ℕ) (peers₀ peers : P) (handler handler₂ : H) (links₀ links links₂ : List Link) → over handler ≡ false → HearsTo place peers₀ peers handler links₀ links → length links ≡ 64
+      → Joins answers.together over handler handler₂ links links₂ → Readies did answers over peers₀ peers handler handler₂ links₀ links₂
+  readies place peers₀ peers handler handler₂ links₀ links links₂ on far size joins count start first earlier runs all fresh =
+      let r = far count start first earlier runs all fresh in
+      by r joins
+    where
+      by : (r : HeardTo count place peers handler links start first earlier) → Joins answers.together over handler handler₂ links links₂
+          → (length links₂ ≡ 64) × GoesReady did answers over count peers handler₂ links₂ start first earlier
+      by r (inr (same, still)) = (
+        ap (λ (ls : List Link). length ls) still ∙ size,
+        record {
+          later = r.later;
+          runs = subst (λ h. Runs did answers over count start first r.later peers h) (sym same) r.runs;
+          holds = subst (AllHold r.later) (sym still) r.holds;
+          comings_are = r.comings_are;
+          looks_are = r.looks_are;
+          fresh = λ k d within none. r.fresh k;
+        },
+      )
+      by r (inl joined) =
+          let g = goes_joined did answers over count start first r.later peers handler handler₂ links links₂ size r.runs r.holds on r.fresh joined in
+          (joined.gives.as_many ∙ size, record { later = g.later; runs = g.runs; holds = g.holds; comings_are = g.comings_are ∙ r.comings_are; looks_are = g.looks_are ∙ r.looks_are; fresh = g.fresh })
 
 -- one of them
 pub some_link : (links : List Link) → 0 < length links → Link
@@ -157,7 +246,7 @@ holds_looked t link h = by link.stage refl
         let e : IsEnding t link = holds t link Ending is h in
         held (looked t) link Ending is (record { is_open = e.is_open; done = done_looked t e.done; owes = e.owes; sized = e.sized })
 
-module _ {P H : Type 0} (did : P → Step → P → Type 0) (answers : Answering H) (over : H → Bool) (peers : P) (handler : H) (count : ℕ) where
+module _ {P H : Type 0} (did : P → Step → P → Type 0) (answers : Replying H) (over : H → Bool) (peers : P) (handler : H) (count : ℕ) where
   -- so often it looked, and so many are still to come
   pub record Serving (now : P) (handler₁ : H) (links : List Link) (left : ℕ) (is_busy : Bool) (rounds : ℕ) : Type 0 where
     pub history : List Step
@@ -180,20 +269,21 @@ module _ {P H : Type 0} (did : P → Step → P → Type 0) (answers : Answering
 
   module _ (now : P) (handler₁ : H) (links : List Link) (left : ℕ) (is_busy : Bool) (rounds : ℕ) (s : Serving now handler₁ links left is_busy rounds) where
     -- a look and a round more
-    pub serving_next : (then next : P) (handler₂ : H) (links₂ : List Link) (left₂ : ℕ) (busy : Bool) → over handler₁ ≡ false → did now (Looked is_busy (nat_lt 0 left)) then
-        → Rounds did answers over then next handler₁ handler₂ links links₂ left left₂ busy → Serving next handler₂ links₂ left₂ busy (rounds + 1)
-    serving_next then next handler₂ links₂ left₂ busy on looks_now round =
-        let r : GoesRound did answers over count next handler₂ links₂ left left₂ busy peers handler (Looked is_busy (nat_lt 0 left) ∷ s.history) =
-        round count peers handler (Looked is_busy (nat_lt 0 left) ∷ s.history)
+    pub serving_next : (then ready next : P) (handler₂ handler₃ : H) (links₂ links₃ : List Link) (left₂ : ℕ) (busy : Bool) → over handler₁ ≡ false → did now (Looked is_busy (nat_lt 0 left)) then
+        → Readies did answers over then ready handler₁ handler₂ links links₂ → Rounds did answers over ready next handler₂ handler₃ links₂ links₃ left left₂ busy
+        → Serving next handler₃ links₃ left₂ busy (rounds + 1)
+    serving_next then ready next handler₂ handler₃ links₂ links₃ left₂ busy on looks_now readies round =
+        let it = (readies count peers handler (Looked is_busy (nat_lt 0 left) ∷ s.history)
         (record { happens = (now, s.runs.happens, looks_now); answered = s.runs.answered; right = (s.runs.right, sym (may_come_is (comings s.history) left count s.left_is), s.attended on) })
         (λ k d below. holds_looked (talk k s.history) (get_or links k d) (s.holds k d below))
-        (λ k. refl) in
+        (λ k. refl)).1 in
+        let r : GoesRound did answers over count next handler₃ links₃ left left₂ busy peers handler it.later = round count peers handler it.later it.runs it.holds it.fresh in
         record {
           history = r.later;
           runs = r.runs;
           holds = r.holds;
-          left_is = omega (arith, r.left_is, s.left_is);
-          looks_are = r.looks_are ∙ ap (λ n. n + 1) s.looks_are;
+          left_is = omega (arith, r.left_is, it.comings_are, s.left_is);
+          looks_are = r.looks_are ∙ it.looks_are ∙ ap (λ n. n + 1) s.looks_are;
           attended = r.attended;
         }
 

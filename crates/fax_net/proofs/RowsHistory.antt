@@ -1,12 +1,12 @@
 -- Worked rows of histories: what becomes of one connection, which steps fit it, and what has to be done for it before a look.
-use Rattle.std.proofs.Common.{◌≡◌, ◌⊎◌, ℕ, ◌+◌, ◌<◌, ◌≤◌, Bool, true, false, List, [], ◌∷◌, ◌++◌, length, None, Some, refl, ap, sym, ◌∙◌, subst, inl, inr, arith}
+use Rattle.std.proofs.Common.{◌≡◌, ◌⊎◌, ℕ, ◌+◌, ◌<◌, ◌≤◌, Bool, true, false, List, [], ◌∷◌, ◌++◌, length, Option, None, Some, refl, ap, sym, ◌∙◌, subst, inl, inr, arith}
 use Rattle.std.specs.Prelude.{codes}
 use Rattle.fax_http.specs.declared.message.Broken.TheVariants.{BadHttp, TooLarge}
 use Rattle.fax_http.specs.Conversation.{EndWithLast, GoOn, Reads, Turn, failure_of, spelled_turn, spelled_turns}
 use Rattle.fax_http.specs.Message.{BeginsWith, IsBad, IsTooLarge, IsUnfinished, StaysBad}
-use Rattle.fax_http.specs.Serving.{Answering}
+use Rattle.fax_http.specs.Serving.{Replying}
 use Rattle.fax_http.proofs.TurnLemmas.{none_unfinished}
-use Rattle.fax_net.specs.History.{AreAnswered, Answered, AsksForListing, At, Awaits, Came, Dry, Ended, Failed, FailsIn, Fits, GoesOn, Happens, HasRoom, Held, IsAttended, IsBroken, IsDone, IsNext, IsOverAtLast, IsOwing, IsRight, Left, Looked, Missed, Refused, Said, Step, Talk, Took, Waits, asks_for_listing, comings, last_owed, looks, owed, room, talk, turns_of, untaken, untaken_at, untaken_from}
+use Rattle.fax_net.specs.History.{AreAnswered, Answered, AsksForListing, At, Awaits, Came, Dry, Ended, Failed, FailsIn, Fits, GoesOn, Happens, HasRoom, Held, IsAttended, IsBroken, IsDone, IsNext, IsOverAtLast, IsOwing, IsRight, Left, Looked, MayJoin, Missed, Refused, Said, Step, Talk, Together, Took, Waits, asks_for_listing, comings, last_owed, looks, owed, room, talk, turns_of, untaken, untaken_at, untaken_from}
 
 -- ---- what becomes of a connection
 
@@ -150,18 +150,72 @@ module _ (a b : Turn) where
   over_last_row : ¬ IsOverAtLast (At 3 (Answered b true) ∷ []) false
   over_last_row (is, none) = absurd cc
 
-  module _ {H : Type 0} (answers : Answering H) (over : H → Bool) (old new : H) where
+  -- ---- messages that are answered together
+
+  -- those of the places 0 and 2
+  abbrev both : List (Option Turn)
+  both = Some a ∷ None ∷ Some b ∷ []
+
+  -- each of the two has its own
+  joined_row : (earlier : List Step) → ((talk 0 (Together both true ∷ earlier)).turns ≡ (talk 0 earlier).turns ++ a ∷ [])
+      × ((talk 2 (Together both true ∷ earlier)).turns ≡ (talk 2 earlier).turns ++ b ∷ [])
+  joined_row earlier = (refl, refl)
+
+  -- the place between them and those after them have nothing
+  not_joined_row : (earlier : List Step) → (talk 1 (Together both true ∷ earlier) ≡ talk 1 earlier) × (talk 3 (Together both true ∷ earlier) ≡ talk 3 earlier)
+  not_joined_row earlier = (refl, refl)
+
+  joined_over_row : (earlier : List Step) → (talk 2 (Together both true ∷ earlier)).is_over ≡ true
+  joined_over_row earlier = refl
+
+  -- each of them is the next one there, and there are 64 places
+  together_right_row : (count : ℕ) (earlier : List Step) → IsRight count (Together both true ∷ earlier)
+      → IsRight count earlier × MayJoin (talk 0 earlier) a × MayJoin (talk 2 earlier) b
+  together_right_row count earlier (right, within, each) = (right, each 0, each 2)
+
+  together_many_row : (count : ℕ) (turns : List (Option Turn)) → IsRight count (Together turns false ∷ []) → length turns ≤ 64
+  together_many_row count turns (right, within, each) = within
+
+  together_turns_row : turns_of (Together both true ∷ At 3 (Answered b false) ∷ []) ≡ b ∷ a ∷ b ∷ []
+  together_turns_row = refl
+
+  together_not_over_row : (over : Bool) → ¬ IsOverAtLast (At 3 (Answered b over) ∷ Together both true ∷ []) over
+  together_not_over_row over (is, (never, none)) = absurd cc
+
+  together_before_row : (over : Bool) → ¬ IsOverAtLast (Together both over ∷ At 5 (Answered a true) ∷ []) over
+  together_before_row over (is, (never, none)) = absurd cc
+
+  together_between_row : (over : Bool) → ¬ IsOverAtLast (At 3 (Answered b over) ∷ Together both false ∷ At 5 (Answered a true) ∷ []) over
+  together_between_row over (is, (on, (never, none))) = absurd cc
+
+  together_last_row : ¬ IsOverAtLast (Together both true ∷ []) false
+  together_last_row (is, none) = absurd cc
+
+  module _ {H : Type 0} (answers : Replying H) (over : H → Bool) (old new : H) where
+    -- those two are answered from what the first message left
+    together_answered_row : AreAnswered answers over old (Together both true ∷ At 3 Dry ∷ At 5 (Answered a false) ∷ []) new
+        → (between : H) × (answers.one old a.head a.body a.reply between) × (answers.together between (a ∷ b ∷ []) new) × (over old ≡ false) × (over between ≡ false) × (true ≡ over new)
+    together_answered_row (between, (start, first, on, step, is), on₂, step₂, is₂) =
+        (between, subst (λ h. answers.one h a.head a.body a.reply between) first step, step₂, subst (λ h. over h ≡ false) first on, on₂, is₂)
+
     -- the second is answered from what the first left, and the first from what there was
     in_order_row : AreAnswered answers over old (At 3 (Answered b true) ∷ At 3 Dry ∷ At 5 (Answered a false) ∷ []) new
-        → (between : H) × (answers old a.head a.body a.reply between) × (answers between b.head b.body b.reply new) × (over old ≡ false) × (over between ≡ false) × (true ≡ over new)
+        → (between : H) × (answers.one old a.head a.body a.reply between) × (answers.one between b.head b.body b.reply new) × (over old ≡ false) × (over between ≡ false) × (true ≡ over new)
     in_order_row (between, (start, first, on, step, is), on₂, step₂, is₂) =
-        (between, subst (λ h. answers h a.head a.body a.reply between) first step, step₂, subst (λ h. over h ≡ false) first on, on₂, is₂)
+        (between, subst (λ h. answers.one h a.head a.body a.reply between) first step, step₂, subst (λ h. over h ≡ false) first on, on₂, is₂)
 
   module _ {P : Type 0} (did : P → Step → P → Type 0) (old new : P) where
     -- the connections do each step but the answers
     happens_row : Happens did old (At 3 Dry ∷ At 3 (Answered a false) ∷ At 3 (Refused BadHttp) ∷ At 3 Came ∷ []) new
         → (between : P) × did old (At 3 Came) between × did between (At 3 Dry) new
     happens_row (between, (start, first, came), dry) = (between, subst (λ p. did p (At 3 Came) between) first came, dry)
+
+    together_happens_row : Happens did old (Together both false ∷ At 3 Came ∷ []) new → did old (At 3 Came) new
+    together_happens_row (start, first, came) = subst (λ p. did p (At 3 Came) new) first came
+
+-- one that joins is the next one, and asks for no listing
+joins_row : (t : Talk) (turn : Turn) → MayJoin t turn → (next : IsNext t turn) × (asks_for_listing next.rest ≡ false)
+joins_row t turn joins = (joins.next, joins.small)
 
 -- those that can't be accepted count as well
 comings_row : comings (At 4 Missed ∷ At 3 Waits ∷ Looked true true ∷ At 3 Came ∷ []) ≡ 2

@@ -1,11 +1,12 @@
 -- What a server of many connections did: its history, the newest step first. Each connection has a place, and what became of it is told by the steps at its place alone.
-use Rattle.std.specs.Prelude.{◌≡◌, ◌⊎◌, ℕ, zero, suc, ◌+◌, ◌<◌, ◌≤◌, ◌==◌, ◌||◌, ◌&&◌, nat_lt, Bool, true, false, List, [], ◌∷◌, ◌++◌, codes, length, min, take, Option, Some, None, if◌then◌else◌, nat_eq, ⊤}
+use Rattle.std.specs.Prelude.{◌≡◌, ◌⊎◌, ℕ, zero, suc, ◌+◌, ◌<◌, ◌≤◌, ◌==◌, ◌||◌, ◌&&◌, nat_lt, Bool, true, false, List, [], ◌∷◌, ◌++◌, codes, get_or, length, min, take, IfSome, Option, Some, None, if◌then◌else◌, nat_eq, ⊤}
+use Rattle.std.specs.List.{filter_map}
 use Rattle.std.specs.Str.{bytes_eq}
 use Rattle.fax_http.specs.declared.message.Broken.{Broken}
 use Rattle.fax_http.specs.declared.message.Broken.TheVariants.{BadHttp, TooLarge}
 use Rattle.fax_http.specs.Conversation.{EndWithLast, GoOn, Reads, Turn, failure_of, spelled_turn, spelled_turns}
 use Rattle.fax_http.specs.Message.{BeginsWith, IsBad, IsTooLarge, IsUnfinished, StaysBad}
-use Rattle.fax_http.specs.Serving.{Answering}
+use Rattle.fax_http.specs.Serving.{Replying}
 
 -- ---- steps
 
@@ -24,9 +25,10 @@ pub data Act : Type 0 where
   Answered : (turn : Turn) → (is_over : Bool) → Act
   Refused : (broken : Broken) → Act
 
--- an act at a place; or a look at all connections, for which the server waits where it has nothing to do, and which says whether more are to come
+-- an act at a place; or the next messages of some places, from the first place on, are answered together; or a look at all connections, for which the server waits where it has nothing to do, and which says whether more are to come
 pub data Step : Type 0 where
   At : (place : ℕ) → (act : Act) → Step
+  Together : (turns : List (Option Turn)) → (is_over : Bool) → Step
   Looked : (is_busy may_come : Bool) → Step
 
 -- ---- what became of one connection
@@ -83,6 +85,11 @@ acted Held t = record t { is_held = true }
 acted (Answered turn is_over) t = record t { turns = t.turns ++ turn ∷ []; is_over = is_over; is_blocked = false; is_moved = true; replies = t.replies + 1 }
 acted (Refused broken) t = record t { refused = Some broken; is_blocked = false; is_moved = true }
 
+-- a message that is answered together with others, if there is one
+abbrev pub joined : Option Turn → Bool → Talk → Talk
+joined None is_over t = t
+joined (Some turn) is_over t = acted (Answered turn is_over) t
+
 -- after a look nothing was tried yet: what was found before it has to be found again
 abbrev pub looked : Talk → Talk
 looked t = record t { is_dry = false; is_blocked = false; is_moved = false; is_held = false; replies = 0 }
@@ -91,6 +98,7 @@ looked t = record t { is_dry = false; is_blocked = false; is_moved = false; is_h
 abbrev pub talk : ℕ → List Step → Talk
 talk place [] = nobody
 talk place (At other act ∷ earlier) = if nat_eq other place then acted act (talk place earlier) else talk place earlier
+talk place (Together turns is_over ∷ earlier) = joined (get_or turns place None) is_over (talk place earlier)
 talk place (Looked is_busy may_come ∷ earlier) = looked (talk place earlier)
 
 -- the bytes of a refusal, where there is one
@@ -229,6 +237,11 @@ HasRoom act place earlier = ⊤
 
 -- ---- a history
 
+-- the turn is the next one, and asks for no listing
+pub record MayJoin (t : Talk) (turn : Turn) : Type 0 where
+  pub next : IsNext t turn
+  pub small : asks_for_listing next.rest ≡ false
+
 -- how many connections came, with those that couldn't be accepted
 abbrev pub comings : List Step → ℕ
 comings [] = 0
@@ -240,6 +253,8 @@ comings (step ∷ earlier) = comings earlier
 abbrev pub IsRight : ℕ → List Step → Type 0
 IsRight count [] = ⊤
 IsRight count (At place act ∷ earlier) = IsRight count earlier × (place < 64) × Fits act (talk place earlier) × HasRoom act place earlier
+IsRight count (Together turns is_over ∷ earlier) =
+    IsRight count earlier × (length turns ≤ 64) × ((place : ℕ) → IfSome (get_or turns place None) (MayJoin (talk place earlier)))
 IsRight count (Looked is_busy may_come ∷ earlier) =
     IsRight count earlier × (may_come ≡ nat_lt (comings earlier) count) × ((place : ℕ) → place < 64 → IsAttended is_busy may_come (talk place earlier))
 
@@ -249,6 +264,7 @@ IsRight count (Looked is_busy may_come ∷ earlier) =
 abbrev pub turns_of : List Step → List Turn
 turns_of [] = []
 turns_of (At place (Answered turn is_over) ∷ earlier) = turns_of earlier ++ turn ∷ []
+turns_of (Together turns is_over ∷ earlier) = turns_of earlier ++ filter_map (λ turn. turn) turns
 turns_of (step ∷ earlier) = turns_of earlier
 
 -- how often it looked
@@ -257,12 +273,15 @@ looks [] = 0
 looks (Looked is_busy may_come ∷ earlier) = looks earlier + 1
 looks (step ∷ earlier) = looks earlier
 
--- each message is answered from the state that the one before it left
-abbrev pub AreAnswered : {H : Type 0} → Answering H → (H → Bool) → H → List Step → H → Type 0
+-- each message is answered from the state that the one before it left, by itself or together with others
+abbrev pub AreAnswered : {H : Type 0} → Replying H → (H → Bool) → H → List Step → H → Type 0
 AreAnswered answers over old [] new = new ≡ old
 AreAnswered {H} answers over old (At place (Answered turn is_over) ∷ earlier) new =
-    (between : H) × AreAnswered answers over old earlier between × (over between ≡ false)
-    × answers between turn.head turn.body turn.reply new × (is_over ≡ over new)
+    (between : H) × AreAnswered answers over old earlier between
+    × (over between ≡ false) × answers.one between turn.head turn.body turn.reply new × (is_over ≡ over new)
+AreAnswered {H} answers over old (Together turns is_over ∷ earlier) new =
+    (between : H) × AreAnswered answers over old earlier between
+    × (over between ≡ false) × answers.together between (filter_map (λ turn. turn) turns) new × (is_over ≡ over new)
 AreAnswered answers over old (step ∷ earlier) new = AreAnswered answers over old earlier new
 
 -- the connections do what the history tells; answering is no deed of theirs
@@ -270,16 +289,19 @@ abbrev pub Happens : {P : Type 0} → (P → Step → P → Type 0) → P → Li
 Happens did old [] new = new ≡ old
 Happens did old (At place (Answered turn is_over) ∷ earlier) new = Happens did old earlier new
 Happens did old (At place (Refused broken) ∷ earlier) new = Happens did old earlier new
+Happens did old (Together turns is_over ∷ earlier) new = Happens did old earlier new
 Happens {P} did old (step ∷ earlier) new = (between : P) × Happens did old earlier between × did between step new
 
 -- who answers was not over
 abbrev pub IsNeverOver : List Step → Type 0
 IsNeverOver [] = ⊤
 IsNeverOver (At place (Answered turn is_over) ∷ earlier) = (is_over ≡ false) × IsNeverOver earlier
+IsNeverOver (Together turns is_over ∷ earlier) = (is_over ≡ false) × IsNeverOver earlier
 IsNeverOver (step ∷ earlier) = IsNeverOver earlier
 
 -- nothing is answered once who answers is over
 abbrev pub IsOverAtLast : List Step → Bool → Type 0
 IsOverAtLast [] over = ⊤
 IsOverAtLast (At place (Answered turn is_over) ∷ earlier) over = (is_over ≡ over) × IsNeverOver earlier
+IsOverAtLast (Together turns is_over ∷ earlier) over = (is_over ≡ over) × IsNeverOver earlier
 IsOverAtLast (step ∷ earlier) over = IsOverAtLast earlier over

@@ -2,6 +2,7 @@ pub mod Deeds
 pub mod History
 pub mod Laws
 pub mod Link
+pub mod Joining
 pub mod Listening
 pub mod Lists
 pub mod Many

@@ -1,7 +1,8 @@
 //! One connection of many: what is done for it at its turn, none of which waits for its peer.
 ghost use Rattle.std.specs.Prelude.{◌≡◌, ◌&&◌, nat_le, nat_lt, true, false};
+ghost use Rattle.fax_http.specs.Serving.{replying};
 ghost use Rattle.fax_net.specs.History.{IsAttended, room, untaken};
-ghost use Rattle.fax_net.specs.Link.{HasAnswered, is_done, is_taken};
+ghost use Rattle.fax_net.specs.Link.{HasAnswered, awaits, is_done, is_taken};
 ghost use Rattle.fax_net.specs.Deeds.{Admits, Does, HoldsUp, TakesIn, Writes};
 ghost use Rattle.fax_net.specs.Many.{IsSettled, Moves};
 
@@ -21,7 +22,7 @@ pub(crate) fn serve_place<P: Peers, H: Handler>(
     piece: &mut [u8],
 ) -> bool
     requires { H.over handler.old ≡ false }
-    ensures { Moves P.did H.answers H.over place peers.old peers.new handler.old handler.new link.old link.new left.old left.new
+    ensures { Moves P.did (replying H.answers H.together) H.over place peers.old peers.new handler.old handler.new link.old link.new left.old left.new
         (λ earlier. is_full ≡ (is_taken link.old.stage && nat_le room (untaken earlier))) result (IsAttended result (nat_lt 0 left.new)) }
 {
     if link.is_free() {
@@ -66,7 +67,7 @@ fn converse<P: Peers, H: Handler>(
 ) -> bool
     requires on { H.over handler.old ≡ false }
     requires taken { ¬ (link.old.stage ≡ Stage.Free) }
-    ensures { Moves P.did H.answers H.over place peers.old peers.new handler.old handler.new link.old link.new 0 0
+    ensures { Moves P.did (replying H.answers H.together) H.over place peers.old peers.new handler.old handler.new link.old link.new 0 0
         (λ earlier. is_full ≡ nat_le room (untaken earlier)) result (IsSettled result) }
 {
     let came = take_in(peers, place, link, piece);
@@ -123,7 +124,7 @@ fn hold<P: Peers>(peers: &mut P, place: usize, link: &mut Link, is_full: bool) -
 }
 
 /// Writes once of what is owed.
-fn write<P: Peers>(peers: &mut P, place: usize, link: &mut Link) -> bool
+pub(crate) fn write<P: Peers>(peers: &mut P, place: usize, link: &mut Link) -> bool
     ensures does { Writes P.did place peers.old peers.new link.old link.new result }
     ensures still { result ≡ false → link.new ≡ link.old }
 {
@@ -159,9 +160,15 @@ fn leave<P: Peers>(peers: &mut P, place: usize, link: &mut Link) -> bool
 }
 
 /// Reads once where a message is awaited.
-fn take_in<P: Peers>(peers: &mut P, place: usize, link: &mut Link, piece: &mut [u8]) -> bool
+pub(crate) fn take_in<P: Peers>(
+    peers: &mut P,
+    place: usize,
+    link: &mut Link,
+    piece: &mut [u8],
+) -> bool
     ensures does { TakesIn P.did place peers.old peers.new link.old link.new result }
     ensures still { result ≡ false → link.new ≡ link.old }
+    ensures paid { result ≡ true → awaits link.old ≡ true }
 {
     if !link.awaits() {
         return false;

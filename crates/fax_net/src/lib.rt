@@ -6,6 +6,7 @@
 mod breaks;
 mod conversing;
 mod exchanging;
+mod joining;
 pub mod laws;
 mod link;
 mod listening;

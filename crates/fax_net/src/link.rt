@@ -1,10 +1,12 @@
 //! What a server keeps of one connection: what it said and isn't answered yet, and what is still to be written to it.
-ghost use Rattle.std.specs.Prelude.{◌≡◌, ◌≤◌, ◌<◌, ◌⊎◌, IsTrue, ◌↔◌, IfOk};
+ghost use Rattle.std.specs.Prelude.{◌≡◌, ◌≤◌, ◌<◌, ◌⊎◌, IsTrue, ◌↔◌, IfOk, IfSome, length};
 ghost use Rattle.fax_net.specs.History.{asks_for_listing};
+ghost use Rattle.fax_net.specs.Joining.{HasReply, IsDuePost};
 ghost use Rattle.fax_net.specs.Link.{AwaitsNext, HasEnded, IsUnused, Owes, awaits, is_done, is_due, is_held, is_owing, untaken_by};
 
 use crate::pending::Pending;
-use fax_http::{Broken, Buffer, Outgoing};
+use fax_ask::Reply;
+use fax_http::{Broken, Buffer, Cut, Message, Outgoing, post_at};
 use std::alloc::{AllocError, Global};
 
 /// The most messages of one connection.
@@ -98,6 +100,30 @@ impl Link {
     {
         if self.is_due() && self.said.bytes().is_empty() {
             self.is_awaited = true;
+        }
+    }
+
+    /// The POST that is its next message, where that is due and there to its end.
+    pub(crate) fn due_post(&self) -> Option<(Message<'_>, Cut)>
+        ensures { IfSome result (λ it. IsDuePost self.now it.0 it.1) }
+    {
+        if !self.is_due() || asks_for_listing(self.said.bytes()) {
+            return None;
+        }
+        post_at(self.said.bytes())
+    }
+
+    /// Has the reply to its next message written, which is cut off so.
+    pub(crate) fn take_reply(&mut self, cut: Cut, reply: Reply)
+        requires { cut.used ≤ length self.old.said }
+        ensures { HasReply self.old self.new cut reply }
+    {
+        cut.take_from(&mut self.said);
+        if cut.is_last() {
+            self.owe(cut.spell(reply), Stage::Ending);
+        } else {
+            self.messages = self.messages.saturating_add(1);
+            self.owe(cut.spell(reply), stage_behind(self.messages));
         }
     }
 

@@ -2,7 +2,7 @@
 ghost use Rattle.std.specs.Prelude.{◌≡◌, List};
 ghost use Rattle.fax_http.specs.Conversation.{Turn};
 ghost use Rattle.fax_http.specs.Device.{IsFresh};
-ghost use Rattle.fax_http.specs.Serving.{Answers};
+ghost use Rattle.fax_http.specs.Serving.{AnswersInParts, replying};
 ghost use Rattle.fax_net.specs.Listening.{Listens, bind_line};
 ghost use Rattle.fax_ending.specs.Ending.{spoken};
 
@@ -26,7 +26,7 @@ pub fn listen<'a, P: Peers + Drop, N: Network<P> + Drop, H: Handler, W: Write + 
     ensures served { (turns : List Turn)
         × Listens W.contents out.old out.new N.opened P.did
         plan.entry.connections turns (H.over handler.new) result.status (spoken result)
-        × Answers H.answers handler.old turns handler.new }
+        × AnswersInParts (replying H.answers H.together) handler.old turns handler.new }
 {
     let mut peers = match network.bind(plan.address, plan.timeout) {
         Ok(peers) => peers,
@@ -38,7 +38,13 @@ pub fn listen<'a, P: Peers + Drop, N: Network<P> + Drop, H: Handler, W: Write + 
     let Ok(()) = out.put(b"faxqd: listening\n") else {
         return Ending::failed("faxqd: ended write-failed");
     };
-    serve_many(&mut peers, links.as_mut_slice(), plan.connections, handler);
+    serve_many(
+        alloc,
+        &mut peers,
+        links.as_mut_slice(),
+        plan.connections,
+        handler,
+    );
     peers.finish();
     if handler.is_over() {
         return Ending::failed("faxqd: database");

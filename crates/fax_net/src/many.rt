@@ -1,18 +1,17 @@
 //! Many connections are served side by side: each has its turn, and none waits for another's peer.
-ghost use Rattle.std.specs.Prelude.{◌≡◌, ◌<◌, ◌&&◌, ℕ, true, length, get_or, nat_le, IfOk};
+ghost use Rattle.std.specs.Prelude.{◌≡◌, ◌<◌, ◌&&◌, ℕ, true, false, length, get_or, nat_le, IfOk};
+ghost use Rattle.fax_http.specs.Serving.{replying};
 ghost use Rattle.fax_net.specs.History.{room};
 ghost use Rattle.fax_net.specs.Link.{is_taken, untaken_in};
 ghost use Rattle.fax_net.specs.declared.link.Link.{Link as KeptLink};
-ghost use Rattle.fax_net.specs.Many.{Rounds, ServesMany};
+ghost use Rattle.fax_net.specs.Many.{Readies, Rounds, ServesMany};
 
-use crate::conversing::serve_place;
+use crate::conversing::{serve_place, take_in, write};
+use crate::joining::{PLACES, answer_posts};
 use crate::link::{Link, Stage};
 use crate::peers::Peers;
 use fax_http::Handler;
 use std::alloc::{AllocError, Global};
-
-/// How many connections are served at once.
-pub(crate) const PLACES: usize = 64;
 
 /// How many bytes the replies may have that their peers haven't taken whole while a listing is begun.
 const ROOM: u128 = 64_000_000;
@@ -23,6 +22,7 @@ const PIECE_LIMIT: usize = 4_096;
 /// Serves connections until so many have come and are served to their end, or the handler is over. One that can't be
 /// accepted counts as served. The server waits only where it has nothing to do for any of them.
 pub(crate) fn serve_many<P: Peers, H: Handler>(
+    alloc: Global,
     peers: &mut P,
     links: &mut [Link],
     count: u64,
@@ -30,7 +30,7 @@ pub(crate) fn serve_many<P: Peers, H: Handler>(
 )
     requires places { length links.old ≡ PLACES }
     requires free { (k : ℕ) (d : KeptLink) → k < length links.old → (get_or links.old k d).stage ≡ Stage.Free }
-    ensures { ServesMany P.did H.answers H.over count peers.old handler.old peers.new handler.new }
+    ensures { ServesMany P.did (replying H.answers H.together) H.over count peers.old handler.old peers.new handler.new }
 {
     let mut left = count;
     let mut is_busy = true;
@@ -43,11 +43,30 @@ pub(crate) fn serve_many<P: Peers, H: Handler>(
             return;
         }
         peers.look(is_busy, left > 0);
+        answer_ready(alloc, peers, links, handler, &mut piece);
         is_busy = serve_round(peers, links, &mut left, handler, &mut piece);
     }
 }
 
-/// Gives each place its turn, until the handler is over. Gives whether more may be to do at once.
+/// Reads once where a message is awaited, and has the POSTs that are there answered together.
+fn answer_ready<P: Peers, H: Handler>(
+    alloc: Global,
+    peers: &mut P,
+    links: &mut [Link],
+    handler: &mut H,
+    piece: &mut [u8],
+)
+    requires on { H.over handler.old ≡ false }
+    requires places { length links.old ≡ PLACES }
+    ensures { Readies P.did (replying H.answers H.together) H.over peers.old peers.new handler.old handler.new links.old links.new }
+{
+    for place in 0..links.len() {
+        take_in(peers, place, &mut links[place], piece);
+    }
+    answer_posts(alloc, links, handler);
+}
+
+/// Gives each place its turn; once the handler is over, only what is owed is written. Gives whether more may be to do at once.
 fn serve_round<P: Peers, H: Handler>(
     peers: &mut P,
     links: &mut [Link],
@@ -56,12 +75,13 @@ fn serve_round<P: Peers, H: Handler>(
     piece: &mut [u8],
 ) -> bool
     requires { length links.old ≡ PLACES }
-    ensures { Rounds P.did H.answers H.over peers.old peers.new handler.old handler.new links.old links.new left.old left.new result }
+    ensures { Rounds P.did (replying H.answers H.together) H.over peers.old peers.new handler.old handler.new links.old links.new left.old left.new result }
 {
     let mut is_busy = false;
     for place in 0..links.len() {
         if handler.is_over() {
-            return true;
+            write(peers, place, &mut links[place]);
+            continue;
         }
         let is_full = is_full(links, place);
         let link = &mut links[place];

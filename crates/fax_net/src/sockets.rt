@@ -8,7 +8,7 @@ ghost use Rattle.fax_net.specs.Patience.{IsFor};
 ghost use Rattle.fax_net.specs.Peers.{IsWithin};
 ghost use Rattle.fax_net.specs.Sockets.{IsFree};
 
-use crate::many::PLACES;
+use crate::joining::PLACES;
 use crate::patience::{Patience, shorter};
 use crate::peers::{BindFault, Coming, Moved, Network, Peers};
 use crate::seat::Seat;

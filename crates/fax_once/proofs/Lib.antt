@@ -4,11 +4,12 @@ pub mod RequestLemmas
 mod StopLemmas
 mod GetLemmas
 pub mod HandledLemmas
+pub mod JoinLemmas
 pub mod SessionsLemmas
 mod SaidLemmas
 mod CauseLemmas
 mod LookingLemmas
-mod BatchLemmas
+pub mod BatchLemmas
 mod AnsweringLemmas
 mod ShutLemmas
 mod RowsLeft

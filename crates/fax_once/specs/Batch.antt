@@ -1,5 +1,5 @@
 -- A batch: arrivals that are answered one after the other within one work.
-use Rattle.std.specs.Prelude.{◌≡◌, ◌⊎◌, Bool, true, false, List, [], map, Vec, Ok, Err, Result, IfOk, MatchResult, OnOk}
+use Rattle.std.specs.Prelude.{◌≡◌, ◌⊎◌, ⊤, Bool, true, false, List, [], length, map, Vec, Ok, Err, Result, IfOk, MatchResult, OnOk}
 use Rattle.std.specs.declared.alloc.Global.{Global}
 use Rattle.sqlite.specs.State.{State, HasCleanDisk}
 use Rattle.sqlite_trees.specs.Tree.{Trees}
@@ -102,6 +102,7 @@ module _ {S : Type 0} (g : Ghosts S) (old new : Work S) where
     pub leaves : Follows g old new
     pub goes_on : OnOk result (new.failed ≡ false)
     pub opens : OpensWithin result
+    pub as_many : OnOk result (length replies ≡ length arrivals)
     pub ran : (m : Queue) (k : Ledger) → Sound m → Works (within g old) old.failed m k m k → Serves (within g new)
         → MatchResult result
         (λ has_accepted. RunsWithin s (record { queue = m; kept = k }) arrivals replies has_accepted (within g new) new.failed)
@@ -112,10 +113,16 @@ abbrev pub HasEnded : Settings → Start → List Arrival → State → State �
 HasEnded s start arrivals old new (Done replies) = HasCleanDisk new → StopsIn s start arrivals replies.items old new
 HasEnded s start arrivals old new Failed = Means new start.queue start.kept × MayMake old new (AreMadeByAll s start arrivals)
 
+-- where it has run, it has a reply to each arrival
+abbrev pub HasEach : List Arrival → Batch → Type 0
+HasEach arrivals (Done replies) = length replies.items ≡ length arrivals
+HasEach arrivals Failed = ⊤
+
 module _ {S : Type 0} (g : Ghosts S) where
   -- Arrivals are answered in one transaction. Where one has no answer, nothing has changed.
   pub record AnswersTogether (old new : Store S) (result : Result Batch Fault) (s : Settings) (arrivals : List Arrival) : Type 0 where
     pub clean : HasCleanDisk (shown g new) → HasCleanDisk (shown g old)
+    pub as_many : IfOk result (HasEach arrivals)
     pub ended : (m : Queue) (k : Ledger) → Sound m → Means (shown g old) m k
         → MatchResult result (HasEnded s (record { queue = m; kept = k }) arrivals (shown g old) (shown g new))
         (λ fault. Means (shown g new) m k × CommitsNothing (shown g old) (shown g new))

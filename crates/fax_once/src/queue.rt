@@ -4,7 +4,7 @@
 //! bytes are made before its commit. A refused request changes nothing, and neither does a repeat of an
 //! accepted one, which gets the kept reply.
 
-ghost use Rattle.std.specs.Prelude.{◌≡◌, ◌<◌, ◌^◌, false, IfOk, IsTrue, OnErr};
+ghost use Rattle.std.specs.Prelude.{◌≡◌, ◌<◌, ◌^◌, false, length, IfOk, IsTrue, OnErr};
 ghost use Rattle.sqlite.specs.Effect.{Database};
 ghost use Rattle.sqlite.specs.State.{HasCleanDisk};
 ghost use Rattle.fax_ask.specs.Response.{refused_response};
@@ -175,6 +175,7 @@ impl<S: Alter> Queue<S> {
     pub fn run(&mut self, alloc: Global, arrivals: &[Arrival<'_>]) -> Result<Vec<Reply>, AllocError>
         ensures office { self.new.office ≡ self.old.office }
         ensures none { OnErr result (self.new ≡ self.old) }
+        ensures as_many { IfOk result (λ replies. length replies.items ≡ length arrivals.now) }
         ensures clean { HasCleanDisk (tables S.Store self.new) → HasCleanDisk (tables S.Store self.old) }
         ensures ran { From S.Store self.old (λ m k. HasCleanDisk (tables S.Store self.new)
             → IfOk result (λ replies. RunsWell (settings self.old)
@@ -207,6 +208,7 @@ impl<S: Alter> Queue<S> {
     /// arrival is to be answered 503.
     pub fn batch(&mut self, alloc: Global, arrivals: &[Arrival<'_>]) -> Result<Vec<Reply>, Fault>
         ensures office { self.new.office ≡ self.old.office }
+        ensures as_many { IfOk result (λ replies. length replies.items ≡ length arrivals.now) }
         ensures clean { HasCleanDisk (tables S.Store self.new) → HasCleanDisk (tables S.Store self.old) }
         ensures ran { From S.Store self.old (λ m k. HasCleanDisk (tables S.Store self.new)
             → RunsWell (settings self.old) (record { queue = m; kept = k }) arrivals.now (replies_to arrivals.now result)

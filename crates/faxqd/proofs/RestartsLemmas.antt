@@ -14,7 +14,7 @@ use Rattle.sqlite_wal.specs.Recovery.{Image}
 use Rattle.fax_core.specs.Ledger.{Ledger}
 use Rattle.fax_core.specs.Queue.{Queue}
 use Rattle.fax_core.specs.Sound.{Sound}
-use Rattle.fax_desk.specs.Turns.{replies_of}
+use Rattle.fax_desk.specs.Desk.{replies_of}
 use Rattle.fax_run.proofs.SessionsLemmas.{sessions_have_one_list}
 use Rattle.fax_run.specs.Run.{Start}
 use Rattle.fax_run.specs.Sessions.{Follow, session_of}

@@ -4,8 +4,9 @@ use Rattle.sqlite.specs.Effect.{Database, IsDatabase}
 use Rattle.sqlite.specs.Files.{HoldsDatabase}
 use Rattle.sqlite_wal.specs.Recovery.{Image}
 use Rattle.fax_core.specs.Sound.{Sound}
+use Rattle.fax_desk.specs.Desk.{replies_of}
 use Rattle.fax_desk.specs.Replaying.{empty_start}
-use Rattle.fax_desk.specs.Turns.{AreArrivals, replies_of}
+use Rattle.fax_desk.specs.Turns.{AreArrivals}
 use Rattle.fax_files.specs.Database.{AreHeld}
 use Rattle.fax_run.specs.Run.{Start}
 use Rattle.fax_run.specs.Sessions.{Failed, Follow, HaveOneList, IsSession, Session, Unanswered, session_of}

@@ -5,8 +5,9 @@ use Rattle.sqlite.specs.Files.{HoldsDatabase}
 use Rattle.sqlite_wal.specs.Recovery.{Image}
 use Rattle.fax_core.specs.Settings.{Settings}
 use Rattle.fax_core.specs.Sound.{Sound}
+use Rattle.fax_desk.specs.Desk.{replies_of}
 use Rattle.fax_desk.specs.Replaying.{empty_start}
-use Rattle.fax_desk.specs.Turns.{AreArrivals, replies_of}
+use Rattle.fax_desk.specs.Turns.{AreArrivals}
 use Rattle.fax_files.specs.Database.{AreHeld}
 use Rattle.fax_http.specs.Conversation.{Turn}
 use Rattle.fax_run.specs.Run.{Start}

@@ -11,8 +11,9 @@ use Rattle.sqlite_wal.specs.Recovery.{Image}
 use Rattle.fax_core.specs.Settings.{Settings}
 use Rattle.fax_core.specs.Sound.{Sound}
 use Rattle.fax_decide.specs.declared.office.Office.{Office}
+use Rattle.fax_desk.specs.Desk.{replies_of}
 use Rattle.fax_desk.specs.Replaying.{empty_start, settings_in}
-use Rattle.fax_desk.specs.Turns.{AreArrivals, AreTurns, replies_of}
+use Rattle.fax_desk.specs.Turns.{AreArrivals, AreTurns}
 use Rattle.fax_http.specs.Conversation.{Turn}
 use Rattle.fax_http.specs.Device.{Put}
 use Rattle.fax_http.specs.declared.device.Watched.{Watched}

@@ -1,18 +1,12 @@
-use Rattle.std.proofs.Common.{◌≡◌, false, true≢false, ap, sym, ◌∙◌}
-use Rattle.std.specs.Prelude.{IsTrue}
-use Rattle.sqlite.specs.Held.{state}
-use Rattle.sqlite.specs.State.{HasCleanDisk}
-use Rattle.fax_desk.specs.Replaying.{settings_in}
-use Rattle.fax_desk.proofs.ServedLemmas.{serves_from, so_at_last, stays}
+use Rattle.std.proofs.Common.{true≢false, sym, ◌∙◌}
+use Rattle.fax_desk.proofs.ServedLemmas.{one_by_one, serves_from}
 use Rattle.fax_desk.proofs.conversing.converse.Goals as goal
 
 pub returns-clause-office : goal.returns-clause-office
-returns-clause-office g c = stays _ (λ desk. desk.queue.office) (λ old turn new it. it.0) _ _ _ c.serve.ensures.answered
+returns-clause-office g c = (one_by_one g.C.Clock.gives g.S.Store _ _ _ c.serve.ensures.answered).office
 
 pub returns-clause-shut : goal.returns-clause-shut
-returns-clause-shut g c =
-    so_at_last _ (λ desk. IsTrue desk.queue.is_shut → HasCleanDisk (state g.S.Store desk.queue.store.conn) → (state g.S.Store desk.queue.store.conn).is_open ≡ false)
-    (λ old turn new it. it.2) _ _ _ (λ shut. absurd (true≢false (sym shut ∙ c.requires.going))) c.serve.ensures.answered
+returns-clause-shut g c = (one_by_one g.C.Clock.gives g.S.Store _ _ _ c.serve.ensures.answered).shut (λ shut. absurd (true≢false (sym shut ∙ c.requires.going)))
 
 pub returns-clause-served : goal.returns-clause-served
 returns-clause-served g c = record {
@@ -24,6 +18,5 @@ returns-clause-served g c = record {
   handed = c.serve.ensures.handed;
   within = c.serve.ensures.within;
   ends = c.serve.ensures.ends;
-  answered = serves_from _ g.C.Clock.gives (λ desk. state g.S.Store desk.queue.store.conn) (λ desk. settings_in desk.queue.office) (λ desk. desk.clock)
-      (λ old turn new it. it.1) (λ old turn new it. ap settings_in it.0) (λ old turn new it. it.3) (λ old turn new it. it.4) _ c.serve.ensures.turns _ c.serve.ensures.answered;
+  answered = serves_from g.C.Clock.gives g.S.Store _ c.serve.ensures.turns _ (one_by_one g.C.Clock.gives g.S.Store _ _ _ c.serve.ensures.answered);
 }

@@ -1,7 +1,9 @@
 use Rattle.std.proofs.Common.{◌≡◌, ◌∙◌, ◌<◌, true, false, ap, sym, arith}
+use Rattle.fax_http.specs.Serving.{replying}
 use Rattle.fax_net.specs.History.{room, talk, untaken}
 use Rattle.fax_net.specs.Link.{is_due}
-use Rattle.fax_net.proofs.ConversingLemmas.{goes_answered, goes_awaiting, goes_ended, turned}
+use Rattle.fax_net.specs.Lists.{is_none}
+use Rattle.fax_net.proofs.ConversingLemmas.{goes_answered, goes_awaiting, goes_ended, nothing_pending, turned}
 use Rattle.fax_net.proofs.HistoryLemmas.{goes_both, goes_does, goes_takes, goes_writes}
 use Rattle.fax_net.proofs.LinkLemmas.{due_parts}
 use Rattle.fax_net.proofs.RoomLemmas.{none_untaken, others_less, room_left}
@@ -10,7 +12,7 @@ use Rattle.fax_net.proofs.conversing.converse.Goals as goal
 pub returns : goal.returns
 returns g c count start first earlier runs below kept fresh known =
     let did = g.P.Peers.did in
-    let answers = g.H.Handler.answers in
+    let answers = (replying g.H.Handler.answers g.H.Handler.together) in
     let over = g.H.Handler.over in
     let place = c.args.place in
     let came = goes_takes did answers over count place below start first earlier c.args.peers.now c.args.handler.now runs
@@ -21,7 +23,8 @@ returns g c count start first earlier runs below kept fresh known =
     let under = room_left (untaken earlier) c.args.is_full known empty in
     omega (arith, less, under)) in
     let one = goes_answered did answers over count place below start first came.later c.take_in-came.new.peers c.args.handler.now came.runs c.take_in-came.new.link came.holds
-    c.answer-answered.new.handler c.answer-answered.new.link c.requires.on c.args.is_full c.answer-answered.result roomy (came.also.1 ∙ fresh) c.answer-answered.ensures in
+    c.answer-answered.new.handler c.answer-answered.new.link c.requires.on c.args.is_full c.answer-answered.result roomy
+    (λ due. came.also.1 ∙ fresh (ap is_none (nothing_pending c.take_in-came.result c.args.link.now c.take_in-came.new.link c.take_in-came.ensures.still c.take_in-came.ensures.paid due))) c.answer-answered.ensures in
     let first_two = goes_both did answers over count place start first earlier _ _ _ _ _ _ _ _ _ _ came one in
     let two = goes_ended did answers over count place below start first first_two.later c.take_in-came.new.peers c.answer-answered.new.handler first_two.runs c.answer-answered.new.link first_two.holds
     c.end_input-refused.new.self c.end_input-refused.result c.end_input-refused.ensures in

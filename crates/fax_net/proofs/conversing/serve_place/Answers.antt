@@ -1,4 +1,5 @@
 use Rattle.std.proofs.Common.{rules, ◌≡◌, ◌∙◌, ◌&&◌, true, ap}
+use Rattle.fax_http.specs.Serving.{replying}
 use Rattle.std.specs.Prelude.{nat_le, nat_lt}
 use Rattle.fax_net.specs.History.{room, untaken}
 use Rattle.fax_net.specs.Link.{is_taken}
@@ -10,7 +11,7 @@ use Rattle.fax_net.proofs.conversing.serve_place.Goals as goal
 pub returns-then-is_free : goal.returns-then-is_free
 returns-then-is_free g c count start first earlier runs below kept fresh known =
     let free : c.args.link.now.stage ≡ Free = search rules in
-    admitted g.P.Peers.did g.H.Handler.answers g.H.Handler.over count c.args.place below start first earlier c.args.peers.now _ c.args.handler.now runs c.args.link.now _ free kept _ _ _ c.admit.ensures
+    admitted g.P.Peers.did (replying g.H.Handler.answers g.H.Handler.together) g.H.Handler.over count c.args.place below start first earlier c.args.peers.now _ c.args.handler.now runs c.args.link.now _ free kept _ _ _ c.admit.ensures
 
 pub returns-else-is_free : goal.returns-else-is_free
 returns-else-is_free g c count start first earlier runs below kept fresh known =

@@ -15,6 +15,7 @@ pub loop-arrival-init : goal.loop-arrival-init
 loop-arrival-init g c = record {
   leaves = follows_at g.S.Store c.args.work.now;
   on = c.requires.on;
+  as_many = search rules;
   opens = λ active clean. active_serves _ _ c.requires.on active clean;
   ran = λ m k sound works serves.
       let s = settings_of c.args.office.now.setup c.args.office.now.controls in
@@ -37,6 +38,7 @@ loop-arrival-preserved g c =
     record {
       leaves = follows_then g.S.Store _ _ _ here.leaves answers.leaves;
       on = answers.goes_on;
+      as_many = search rules;
       opens = λ active clean. answers.opens (here.leaves.crash active).0 clean;
       ran = λ m k sound works serves.
           let s = settings_of c.args.office.now.setup c.args.office.now.controls in
@@ -64,6 +66,7 @@ returns g c =
       leaves = here.leaves;
       goes_on = here.on;
       opens = here.opens;
+      as_many = search rules;
       ran = λ m k sound works serves.
           let all : length c.args.arrivals.now ≤ c.loop-arrival.arrival-index = search rules in
           let s = settings_of c.args.office.now.setup c.args.office.now.controls in
@@ -83,6 +86,7 @@ returns-in_err-answered g c =
       leaves = follows_then g.S.Store _ _ _ here.leaves answers.leaves;
       goes_on = search rules;
       opens = search rules;
+      as_many = search rules;
       ran = λ m k sound works serves.
           let s = settings_of c.args.office.now.setup c.args.office.now.controls in
           let start : Start = record { queue = m; kept = k } in
@@ -101,6 +105,7 @@ returns-in-Err g c =
       leaves = follows_then g.S.Store _ _ _ here.leaves answers.leaves;
       goes_on = tt;
       opens = tt;
+      as_many = tt;
       ran = λ m k sound works serves.
           let s = settings_of c.args.office.now.setup c.args.office.now.controls in
           let start : Start = record { queue = m; kept = k } in

@@ -1,4 +1,4 @@
-use Rattle.std.proofs.Common.{◌≡◌, false, take}
+use Rattle.std.proofs.Common.{◌≡◌, false, length, take}
 use Rattle.sqlite.specs.State.{HasCleanDisk}
 use Rattle.fax_core.specs.Ledger.{Ledger}
 use Rattle.fax_core.specs.Queue.{Queue}
@@ -15,6 +15,7 @@ abbrev pub invariant-loop-arrival : goal.invariant-loop-arrival
 invariant-loop-arrival g l = record {
   leaves : Follows g.S.Store l.initial.work l.work;
   on : l.work.failed ≡ false;
+  as_many : length l.replies.items ≡ l.arrival-index;
   opens : IsActive (within g.S.Store l.initial.work) l.initial.work.failed → HasCleanDisk (within g.S.Store l.work) → Serves (within g.S.Store l.work);
   ran : (m : Queue) (k : Ledger) → Sound m → Works (within g.S.Store l.initial.work) l.initial.work.failed m k m k → Serves (within g.S.Store l.work)
       → RunsWithin (settings_of l.office.setup l.office.controls) (record { queue = m; kept = k }) (take l.arrival-index l.arrivals) l.replies.items l.has_accepted

@@ -16,6 +16,7 @@ use Rattle.fax_once.proofs.batch.answer_together.Goals as goal
 pub returns-in_err-replies : goal.returns-in_err-replies
 returns-in_err-replies g c = record {
   clean = λ now. now;
+  as_many = search rules;
   ended = λ m k sound means. refused_with c.from_residual.result _ _ c.from_residual.ensures.0 (means, λ found may. may);
 }
 
@@ -23,7 +24,7 @@ pub returns-in_err-work : goal.returns-in_err-work
 returns-in_err-work g c =
     let given = c.from_residual-in_err-work in
     let stays : StaysAsItWas (state g.S.Store c.args.store.now.conn) (state g.S.Store c.begin.follows.lender-at-none.conn) = search rules in
-    record { clean = stays.2; ended = λ m k sound means. refused_with given.result _ _ given.ensures.0 (means_stay stays.0 stays.1 m k means, stays.3) }
+    record { clean = stays.2; as_many = search rules; ended = λ m k sound means. refused_with given.result _ _ given.ensures.0 (means_stay stays.0 stays.1 m k means, stays.3) }
 
 pub returns-in_err-answer_each : goal.returns-in_err-answer_each
 returns-in_err-answer_each g c =
@@ -36,6 +37,7 @@ returns-in_err-answer_each g c =
     let same : c.drop-work.new.self.0 ≡ c.store-in_err-answer_each-1.given.0 = search rules in
     subst (λ store. AnswersTogether g.S.Store c.args.store.now store given.result s c.args.arrivals.now) same (record {
       clean = λ now. begun.clean (answers.leaves.clean (dropped.clean now));
+      as_many = search rules;
       ended = λ m k sound means.
           refused_with given.result _ _ given.ensures.0 (
             λ serves.
@@ -57,6 +59,7 @@ returns-in-Ok g c =
     let same : c.commit.new.self.0 ≡ c.store-2-1.given.0 = search rules in
     subst (λ store. AnswersTogether g.S.Store c.args.store.now store (Ok (Done c.answer_each.new.replies)) s c.args.arrivals.now) same (record {
       clean = λ now. begun.clean (answers.leaves.clean (ended.clean now));
+      as_many = answers.as_many;
       ended = λ m k sound means clean.
           let start : Start = record { queue = m; kept = k } in
           let serves = ended.opens clean in
@@ -78,6 +81,7 @@ returns-in-Err g c =
     let same : c.commit.new.self.0 ≡ c.store-2-1.given.0 = search rules in
     subst (λ store. AnswersTogether g.S.Store c.args.store.now store (Ok Failed) s c.args.arrivals.now) same (record {
       clean = λ now. begun.clean (answers.leaves.clean (ended.clean now));
+      as_many = tt;
       ended = λ m k sound means.
           let start : Start = record { queue = m; kept = k } in
           let tables = has_tables old m k means in
@@ -102,6 +106,7 @@ returns-then-not-branch g c =
     let same : c.drop-work-then-not-branch.new.self.0 ≡ c.store-then-not-branch-1.given.0 = search rules in
     subst (λ store. AnswersTogether g.S.Store c.args.store.now store (Ok (Done c.answer_each.new.replies)) s c.args.arrivals.now) same (record {
       clean = λ now. begun.clean (answers.leaves.clean (dropped.clean now));
+      as_many = answers.as_many;
       ended = λ m k sound means clean.
           let start : Start = record { queue = m; kept = k } in
           let tables = has_tables old m k means in

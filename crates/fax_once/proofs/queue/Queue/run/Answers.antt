@@ -5,7 +5,8 @@ use Rattle.sqlite.specs.Held.{state}
 use Rattle.fax_ask.specs.Response.{Response}
 use Rattle.fax_decide.specs.Settings.{settings_of}
 use Rattle.fax_decide.specs.declared.office.Office.{Office}
-use Rattle.fax_once.proofs.HandledLemmas.{run_sound, runs_on, runs_well, stops_at_first, stops_on}
+use Rattle.fax_once.proofs.HandledLemmas.{run_sound, runs_well, stops_alone, stops_at_first}
+use Rattle.fax_once.proofs.JoinLemmas.{stops_joined}
 use Rattle.fax_once.proofs.SessionsLemmas.{runs_as_session}
 use Rattle.fax_once.proofs.queue.Queue.run.Goals as goal
 use Rattle.fax_once.specs.Ran.{HasRun}
@@ -55,11 +56,9 @@ loop-arrival-preserved g c =
           (c.handle-reply.ensures.handled here.queue here.kept here_sound before.0.means clean) in
           let stops = subst (λ (o : Office). StopsAnswered (settings_of o.setup o.controls) c.arrival-item.result here.queue here.kept c.handle-reply.result old new) c.loop-arrival.invariant.office
           (c.handle-reply.ensures.crash here.queue here.kept here_sound before.0.means) in
-          let on : StopsIn s start (front ++ c.arrival-item.result ∷ []) (replies ++ c.handle-reply.result ∷ []) initial new = (
-            runs_on s start front replies c.arrival-item.result c.handle-reply.result old new before.0 handled,
-            stops_on s start front replies c.arrival-item.result c.handle-reply.result old new before.0 initial before.1 stops handled
-                c.handle-reply.ensures.alone,
-          ) in
+          let one = stops_alone s here c.arrival-item.result c.handle-reply.result old new stops handled c.handle-reply.ensures.alone in
+          let on : StopsIn s start (front ++ c.arrival-item.result ∷ []) (replies ++ c.handle-reply.result ∷ []) initial new =
+          stops_joined s start front (c.arrival-item.result ∷ []) replies (c.handle-reply.result ∷ []) initial old new before one in
           let low : i < length c.args.arrivals.now = search rules in
           let seen : take (i + 1) c.args.arrivals.now ≡ front ++ c.arrival-item.result ∷ [] = take_more c.args.arrivals.now i c.arrival-item.result low ∙ ap (λ (a : Arrival). front ++ a ∷ []) (sym c.arrival-item.is) in
           let told : c.push.new.self.items ≡ replies ++ c.handle-reply.result ∷ [] = c.push.ensures.items ∙ ap (λ b. if b then replies ++ c.handle-reply.result ∷ [] else replies) put in
