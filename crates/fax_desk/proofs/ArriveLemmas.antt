@@ -1,7 +1,6 @@
 -- Messages arrive at the desk, one after the other.
 use Rattle.std.proofs.Common.{◌≡◌, ℕ, Bool, true, List, [], ◌∷◌, ◌++◌, ap, refl, subst, sym, ◌∙◌}
 use Rattle.std.specs.Prelude.{map}
-use Rattle.std.specs.List.{AllZip}
 use Rattle.httparse.specs.Grammar.{RequestHead}
 use Rattle.fax_http.specs.Conversation.{Turn}
 use Rattle.fax_http.specs.Cut.{ArePartsOf}

@@ -1,6 +1,6 @@
 -- Messages that the queue answers, each by itself or some together, are a run, so they are a session.
-use Rattle.std.proofs.Common.{◌≡◌, ◌∙◌, ℕ, List, [], ◌∷◌, ◌++◌, ap, refl, subst, sym, inl, inr}
-use Rattle.std.proofs.lemmas.List.{append-nil, map-append}
+use Rattle.std.proofs.Common.{◌∙◌, ℕ, List, [], ◌∷◌, ◌++◌, refl, subst, sym, inl, inr}
+use Rattle.std.proofs.lemmas.List.{map-append}
 use Rattle.std.specs.List.{flat_map}
 use Rattle.sqlite_trees.specs.declared.store.Store.{Ghosts}
 use Rattle.fax_ask.specs.Response.{Response}
@@ -8,19 +8,17 @@ use Rattle.fax_decide.specs.declared.office.Office.{Office}
 use Rattle.fax_desk.specs.Conversing.{ServesFrom}
 use Rattle.fax_desk.specs.Desk.{HasAnswered, replies_of}
 use Rattle.fax_desk.specs.Replaying.{settings_in}
-use Rattle.fax_desk.specs.Turns.{AreTurns}
 use Rattle.fax_desk.specs.declared.desk.Desk.{Desk}
 use Rattle.fax_desk.proofs.ArriveLemmas.{arrive_joined}
 use Rattle.fax_desk.proofs.TurnsLemmas.{run_turns}
 use Rattle.fax_http.specs.Conversation.{Turn}
-use Rattle.fax_http.specs.Serving.{Answering, Answers, AnswersInParts, AnswersPart, AnswersParts, Replying, replying}
+use Rattle.fax_http.specs.Serving.{Answers, AnswersInParts, AnswersPart, AnswersParts, Replying, replying}
 use Rattle.fax_once.proofs.HandledLemmas.{run_sound, stops_at_first}
 use Rattle.fax_once.proofs.JoinLemmas.{stops_joined}
 use Rattle.fax_once.proofs.SessionsLemmas.{runs_as_session}
 use Rattle.fax_once.specs.Queue.{tables}
 use Rattle.fax_once.specs.Stop.{StopsIn}
 use Rattle.fax_run.specs.Run.{Start, end_of}
-use Rattle.fax_run.specs.declared.arrival.Arrival.{Arrival}
 
 -- ---- one after the other
 

@@ -71,7 +71,7 @@ some_bytes (x ∷ xs) n = omega arith
 -- ---- a message
 
 -- what stands behind the front of bytes
-behind_front : (input front rest : List ℕ) → input ≡ front ++ rest → drop (length input - length rest) input ≡ rest
+pub behind_front : (input front rest : List ℕ) → input ≡ front ++ rest → drop (length input - length rest) input ≡ rest
 behind_front input front rest e =
     let size : length input - length rest ≡ length front = omega (arith, ap length e, length-append front rest) in
     ap (λ n. drop n input) size ∙ ap (drop (length front)) e ∙ drop-append_seam front rest

@@ -1,5 +1,5 @@
 -- Messages that are answered together.
-use Rattle.std.specs.Prelude.{ℕ, ◌≡◌, ◌≤◌, List, drop, length, map, Option, Some, None, Vec}
+use Rattle.std.specs.Prelude.{ℕ, ◌≡◌, ◌≤◌, List, codes, drop, length, map, Option, Some, None, Vec}
 use Rattle.std.specs.List.{AllZip}
 use Rattle.std.specs.declared.alloc.Global.{Global}
 use Rattle.httparse.specs.Grammar.{RequestHead}
@@ -15,6 +15,7 @@ use Rattle.fax_http.specs.Message.{BeginsWith, is_last}
 -- the message begins the input, and is cut from it so
 pub record IsPost (input : List ℕ) (message : Message) (cut : Cut) : Type 0 where
   pub head : RequestHead
+  pub method : head.method ≡ codes "POST"
   pub begins : BeginsWith input head message.body.now (drop cut.used input)
   pub within : cut.used ≤ length input
   pub parts : ArePartsOf message head message.body.now

@@ -48,7 +48,7 @@ pub fn post_at(input: &[u8]) -> Option<(Message<'_>, Cut)>
     match split_message(input) {
         Ok(Front::Whole(message, rest)) if message.method == Method::POST.as_str().as_bytes() => {
             let form = Form {
-                has_body: message.method != Method::HEAD.as_str().as_bytes(),
+                has_body: true,
                 is_last: message.is_last,
             };
             let used = input.len() - rest.len();

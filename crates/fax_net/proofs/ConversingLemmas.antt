@@ -65,7 +65,7 @@ fails_in t rest TooLarge never = never
 -- ---- a message is answered
 
 module _ {H : Type 0} (answers : Answering H) (over : H → Bool) (h h₂ : H) (link link₂ : Link) (t : Talk) (bytes : List ℕ)
-    (g : IsGoing t link) (none : link.pending ≡ []) (it : HasTurned answers over h h₂ link.said link₂.said bytes) where
+    (g : IsGoing t link) (unended : t.has_ended ≡ false) (none : link.pending ≡ []) (it : HasTurned answers over h h₂ link.said link₂.said bytes) where
   -- the turn is the next one, with all that was owed taken
   abbrev pub next_is : t.replies ≡ 0 → IsNext t it.turn
   next_is fresh = record {
@@ -107,6 +107,7 @@ module _ {H : Type 0} (answers : Answering H) (over : H → Bool) (h h₂ : H) (
       counted = counted_now (more few);
       owes = owes_now is;
       awaited = λ waits. absurd (let unmoved = sym (same ∙ unseen) ∙ waits in cc);
+      unended = λ _. unended;
       sized = λ some. sized_now long;
     })
     | inr (ending, all) ↦ held (acted (Answered it.turn (over h₂)) t) link₂ Ending ending (record {
@@ -162,14 +163,14 @@ module _ {P H : Type 0} (did : P → Step → P → Type 0) (answers : Replying 
         let parts = due_parts link due in
         let g : IsGoing (talk place earlier) link = holds (talk place earlier) link Open parts.0 kept in
         goes_by did answers over count place below start first earlier (Answered it.turn (over h₂)) p h₂ link₂ 0 0 moved (λ t. ⊤) runs.right runs.happens
-        (h, runs.answered, on₁, it.step, refl) (next_is answers.one over h h₂ link link₂ (talk place earlier) bytes g parts.1 it fresh) (link.said, g.goes_on, roomy)
-        (answered_holds answers.one over h h₂ link link₂ (talk place earlier) bytes g parts.1 it going parts.2 (refl, keeps.1, keeps.2, keeps.3, keeps.4, keeps.5)) refl keeps.0 tt
+        (h, runs.answered, on₁, it.step, refl) (next_is answers.one over h h₂ link link₂ (talk place earlier) bytes g (g.unended parts.0) parts.1 it fresh) (link.said, g.goes_on, roomy)
+        (answered_holds answers.one over h h₂ link link₂ (talk place earlier) bytes g (g.unended parts.0) parts.1 it going parts.2 (refl, keeps.1, keeps.2, keeps.3, keeps.4, keeps.5)) refl keeps.0 tt
     found_goes (found.Last bytes) moved due roomy fresh (it, why) keeps =
         let parts = due_parts link due in
         let g : IsGoing (talk place earlier) link = holds (talk place earlier) link Open parts.0 kept in
         goes_by did answers over count place below start first earlier (Answered it.turn (over h₂)) p h₂ link₂ 0 0 moved (λ t. ⊤) runs.right runs.happens
-        (h, runs.answered, on₁, it.step, refl) (next_is answers.one over h h₂ link link₂ (talk place earlier) bytes g parts.1 it fresh) (link.said, g.goes_on, roomy)
-        (last_holds answers.one over h h₂ link link₂ (talk place earlier) bytes g parts.1 it why (refl, keeps.1, keeps.2, keeps.3)) refl keeps.0 tt
+        (h, runs.answered, on₁, it.step, refl) (next_is answers.one over h h₂ link link₂ (talk place earlier) bytes g (g.unended parts.0) parts.1 it fresh) (link.said, g.goes_on, roomy)
+        (last_holds answers.one over h h₂ link link₂ (talk place earlier) bytes g (g.unended parts.0) parts.1 it why (refl, keeps.1, keeps.2, keeps.3)) refl keeps.0 tt
     found_goes (found.Refused bytes) moved due roomy fresh f keeps =
         let parts = due_parts link due in
         let g : IsGoing (talk place earlier) link = holds (talk place earlier) link Open parts.0 kept in
@@ -188,6 +189,7 @@ module _ {P H : Type 0} (did : P → Step → P → Type 0) (answers : Replying 
           counted = g.counted ∙ sym keeps.2;
           owes = g.owes ∙ ap (λ v. (talk place earlier).took ++ v) (sym keeps.1);
           awaited = λ has. subst IsUnfinished (sym stays.same_bytes) unfinished;
+          unended = λ _. g.unended parts.0;
           sized = λ some. absurd (let none = sym some ∙ ap is_none (keeps.1 ∙ parts.1) in cc);
         })) keeps.0 tt)
 
@@ -332,6 +334,7 @@ awaited_holds t link link₂ (inr (due, unsaid, awaited)) h =
       counted = g.counted;
       owes = g.owes;
       awaited = λ waits. subst IsUnfinished (sym unsaid) none_unfinished;
+      unended = g.unended;
       sized = g.sized;
     }))
 
@@ -372,6 +375,7 @@ held_still t link is g = held (acted Held t) link Open is (record {
   counted = g.counted;
   owes = g.owes;
   awaited = g.awaited;
+  unended = g.unended;
   sized = g.sized;
 })
 
@@ -443,7 +447,7 @@ module _ {P H : Type 0} (did : P → Step → P → Type 0) (answers : Replying 
   dryly unread waits may_come =
       let parts = awaits_parts l₆ waits in
       let going : IsGoing (talk place g.later) l₆ = holds (talk place g.later) l₆ Open parts.0 g.holds in
-      inr (going.is_open, inr (inl ((l₆.said, going.goes_on, going.awaited parts.2), g.also.0 unread (sym (ap awaits (read unread)) ∙ waits))))
+      inr (going.is_open, inr (inl ((going.unended parts.0, (l₆.said, going.goes_on, going.awaited parts.2)), g.also.0 unread (sym (ap awaits (read unread)) ∙ waits))))
 
   -- where something moved, there may be more to do, or there is nothing
   attended_by : (d₂ waits : Bool) → (((((c || a) || r) || w) || e) || d) ≡ true → d ≡ d₂ → awaits l₆ ≡ waits → IsSettled (d₂ || not waits) (talk place g.later)
@@ -542,6 +546,7 @@ admitted_holds t link₂ unused = held (acted Came t) link₂ Open unused.stage_
   counted = sym unused.messages;
   owes = sym unused.pending;
   awaited = λ waits. absurd (let never = sym unused.unseen ∙ waits in cc);
+  unended = λ _. refl;
   sized = λ some. absurd (let none = sym some ∙ ap is_none unused.pending in cc);
 })
 

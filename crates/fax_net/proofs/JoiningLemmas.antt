@@ -137,7 +137,7 @@ pub due_post : (link : Link) (found : Option (Message × Cut)) → is_due link �
 due_post link None due small post = tt
 due_post link (Some it) due small post = record {
   asked = record { head = post.head; body = it.0.body.now };
-  cuts = record { due = due; small = small; begins = post.begins; within = post.within; has_body = post.has_body; ends = post.ends };
+  cuts = record { due = due; method = post.method; small = small; begins = post.begins; within = post.within; has_body = post.has_body; ends = post.ends };
   parts = post.parts;
 }
 
@@ -340,6 +340,9 @@ module _ {H : Type 0} (over : H → Bool) (h : H) (t : Talk) (link link₂ : Lin
     going : IsGoing t link
     going = holds t link Open (due_parts link cuts.due).0 kept
 
+    unended : t.has_ended ≡ false
+    unended = going.unended (due_parts link cuts.due).0
+
     abbrev turned : HasTurned any over h h link.said link₂.said bytes
     turned = record {
       turn = its;
@@ -357,18 +360,18 @@ module _ {H : Type 0} (over : H → Bool) (h : H) (t : Talk) (link link₂ : Lin
     given_stands = by cut.form.is_last refl
       where
         may : MayJoin t its
-        may = record { next = next_is any over h h link link₂ t bytes going (due_parts link cuts.due).1 turned fresh; small = cuts.small }
+        may = record { next = next_is any over h h link link₂ t bytes going unended (due_parts link cuts.due).1 turned fresh; method = cuts.method; small = cuts.small }
 
         by : (b : Bool) → cut.form.is_last ≡ b → Stands (Some its)
         by true ends =
             let keeps = has.last ends in (
-              last_holds any over h h link link₂ t bytes going (due_parts link cuts.due).1 turned (inl (sym cuts.ends ∙ ends)) keeps,
+              last_holds any over h h link link₂ t bytes going unended (due_parts link cuts.due).1 turned (inl (sym cuts.ends ∙ ends)) keeps,
               may,
               λ none. absurd (let no = sym some_bytes ∙ (ap is_none (sym keeps.1) ∙ none) in cc),
             )
         by false goes =
             let keeps = has.more goes in (
-              answered_holds any over h h link link₂ t bytes going (due_parts link cuts.due).1 turned (sym cuts.ends ∙ goes) (due_parts link cuts.due).2 keeps,
+              answered_holds any over h h link link₂ t bytes going unended (due_parts link cuts.due).1 turned (sym cuts.ends ∙ goes) (due_parts link cuts.due).2 keeps,
               may,
               λ none. absurd (let no = sym some_bytes ∙ (ap is_none (sym keeps.1) ∙ none) in cc),
             )

@@ -74,7 +74,7 @@ pub said_fits : (link : Link) (said bytes : List ℕ) → 0 < length bytes → s
 said_fits link said bytes some e a t h =
     let parts = awaits_parts link a in
     let g : IsGoing t link = holds t link Open parts.0 h in (
-      (some, (link.said, g.goes_on, g.awaited parts.2)),
+      (some, (g.unended parts.0, (link.said, g.goes_on, g.awaited parts.2))),
       held (acted (Said bytes) t) (record link { said = said; is_awaited = false }) Open parts.0
           (record {
             is_open = g.is_open;
@@ -88,6 +88,7 @@ said_fits link said bytes some e a t h =
             counted = g.counted;
             owes = g.owes;
             awaited = λ no. absurd cc;
+            unended = g.unended;
             sized = g.sized;
           }),
     )
@@ -97,13 +98,14 @@ pub dry_fits : (link : Link) → awaits link ≡ true → (t : Talk) → Holds t
 dry_fits link a t h =
     let parts = awaits_parts link a in
     let g : IsGoing t link = holds t link Open parts.0 h in (
-      (link.said, g.goes_on, g.awaited parts.2),
+      (g.unended parts.0, (link.said, g.goes_on, g.awaited parts.2)),
       held (acted Dry t) link Open parts.0 (record {
         is_open = g.is_open;
         goes_on = record { is_there = g.goes_on.is_there; reads = g.goes_on.reads; going = g.goes_on.going; below = g.goes_on.below; unrefused = g.goes_on.unrefused };
         counted = g.counted;
         owes = g.owes;
         awaited = g.awaited;
+        unended = g.unended;
         sized = g.sized;
       }),
     )
@@ -141,7 +143,7 @@ took_fits link n pending₂ some e o t h = by link.stage refl
         let g : IsGoing t link = holds t link Open is h in (
           (some, (drop n link.pending, owes_front t link.pending pending₂ n e g.owes)),
           held (acted (Took (take n link.pending)) t) (record link { pending = pending₂ }) Open is
-              (record { is_open = g.is_open; goes_on = record { is_there = g.goes_on.is_there; reads = g.goes_on.reads; going = g.goes_on.going; below = g.goes_on.below; unrefused = g.goes_on.unrefused }; counted = g.counted; owes = owes_behind t link.pending pending₂ n e g.owes; awaited = g.awaited; sized = λ left. g.sized parts.1 }),
+              (record { is_open = g.is_open; goes_on = record { is_there = g.goes_on.is_there; reads = g.goes_on.reads; going = g.goes_on.going; below = g.goes_on.below; unrefused = g.goes_on.unrefused }; counted = g.counted; owes = owes_behind t link.pending pending₂ n e g.owes; awaited = g.awaited; unended = g.unended; sized = λ left. g.sized parts.1 }),
         )
     by Ended is =
         let g : HasSaidAll t link = holds t link Ended is h in absurd (let no = sym parts.1 ∙ ap is_none g.nothing in cc)
@@ -170,6 +172,7 @@ waits_holds t link h = by link.stage refl
       counted = g.counted;
       owes = g.owes;
       awaited = g.awaited;
+      unended = g.unended;
       sized = g.sized;
     }
 
@@ -210,7 +213,7 @@ quiet t link h not_free not_ended not_due not_done dry tried may_come = by link.
     by Open false a is none waits =
         let g : IsGoing t link = holds t link Open is h in inr (g.is_open, inl ((link.pending, some_is link.pending none, g.owes), tried (rw is (rw none refl))))
     by Open true true is none waits =
-        let g : IsGoing t link = holds t link Open is h in inr (g.is_open, inr (inl ((link.said, g.goes_on, g.awaited waits), dry (rw is (rw none (rw waits refl))))))
+        let g : IsGoing t link = holds t link Open is h in inr (g.is_open, inr (inl ((g.unended is, (link.said, g.goes_on, g.awaited waits)), dry (rw is (rw none (rw waits refl))))))
     by Open true false is none waits =
         absurd (let no : is_due link ≡ true = rw is (rw none (rw waits refl)) in cc)
     by Ending false a is none waits =

@@ -224,7 +224,7 @@ goes_looked t rest g = record { is_there = g.is_there; reads = g.reads; going = 
 
 -- what is kept of it does
 going_looked : (t : Talk) (link : Link) → IsGoing t link → IsGoing (looked t) link
-going_looked t link g = record { is_open = g.is_open; goes_on = goes_looked t link.said g.goes_on; counted = g.counted; owes = g.owes; awaited = g.awaited; sized = g.sized }
+going_looked t link g = record { is_open = g.is_open; goes_on = goes_looked t link.said g.goes_on; counted = g.counted; owes = g.owes; awaited = g.awaited; unended = g.unended; sized = g.sized }
 
 -- what is done is so past a look
 done_looked : (t : Talk) → IsDone t → IsDone (looked t)

@@ -214,8 +214,8 @@ module _ (a b : Turn) where
     together_happens_row (start, first, came) = subst (λ p. did p (At 3 Came) new) first came
 
 -- one that joins is the next one, and asks for no listing
-joins_row : (t : Talk) (turn : Turn) → MayJoin t turn → (next : IsNext t turn) × (asks_for_listing next.rest ≡ false)
-joins_row t turn joins = (joins.next, joins.small)
+joins_row : (t : Talk) (turn : Turn) → MayJoin t turn → (turn.head.method ≡ codes "POST") × ((next : IsNext t turn) × (asks_for_listing next.rest ≡ false))
+joins_row t turn joins = (joins.method, (joins.next, joins.small))
 
 -- those that can't be accepted count as well
 comings_row : comings (At 4 Missed ∷ At 3 Waits ∷ Looked true true ∷ At 3 Came ∷ []) ≡ 2
@@ -250,8 +250,8 @@ module _ (t : Talk) (rest : List ℕ) where
   asks_row : AsksForListing t → (asked : List ℕ) × GoesOn t asked × (asks_for_listing asked ≡ true)
   asks_row (asked, goes, asks) = (asked, goes, asks)
 
-  awaits_row : Awaits t → (part : List ℕ) × GoesOn t part × IsUnfinished part
-  awaits_row (part, goes, unfinished) = (part, goes, unfinished)
+  awaits_row : Awaits t → (t.has_ended ≡ false) × ((part : List ℕ) × GoesOn t part × IsUnfinished part)
+  awaits_row (on, (part, goes, unfinished)) = (on, (part, goes, unfinished))
 
   -- a message is answered where all that was owed was taken
   next_row : (turn : Turn) → IsNext t turn → (from next : List ℕ) × GoesOn t from × BeginsWith from turn.head turn.body next × (owed t ≡ t.took) × (t.replies ≡ 0)
@@ -294,7 +294,7 @@ module _ (t : Talk) (rest : List ℕ) where
 
 -- a message is awaited of one that has just come
 awaits_nothing_row : Awaits (talk 3 (At 3 Came ∷ []))
-awaits_nothing_row = ([], record { is_there = refl; reads = refl; going = tt; below = omega arith; unrefused = refl }, none_unfinished)
+awaits_nothing_row = (refl, ([], record { is_there = refl; reads = refl; going = tt; below = omega arith; unrefused = refl }, none_unfinished))
 
 -- an unfinished message is broken only where nothing more is said
 unended_row : (said : List ℕ) → ¬ StaysBad said → ¬ FailsIn (talk 3 (At 3 (Said said) ∷ At 3 Came ∷ [])) said BadHttp
@@ -369,7 +369,7 @@ module _ (said : List ℕ) (some : 0 < length said) (bad : StaysBad said) (owes 
     (
       ((tt, refl, λ place below. inl (refl, refl)), omega arith, refl, tt),
       omega arith,
-      (some, ([], record { is_there = refl; reads = refl; going = tt; below = omega arith; unrefused = refl }, none_unfinished)),
+      (some, (refl, ([], record { is_there = refl; reads = refl; going = tt; below = omega arith; unrefused = refl }, none_unfinished))),
       tt,
     ),
     omega arith,
@@ -417,7 +417,7 @@ owing_row t here unheld wet (inr (inr (is, inr (inr held)))) = absurd (let never
 
 -- one that said no more is left alone, once that was found since the last look
 dry_quiet_row : IsAttended false true (talk 3 (At 3 Dry ∷ Looked true true ∷ At 3 Came ∷ []))
-dry_quiet_row = inr (inr (refl, inr (inl (([], record { is_there = refl; reads = refl; going = tt; below = omega arith; unrefused = refl }, none_unfinished), refl))))
+dry_quiet_row = inr (inr (refl, inr (inl ((refl, ([], record { is_there = refl; reads = refl; going = tt; below = omega arith; unrefused = refl }, none_unfinished)), refl))))
 
 unread_row : ¬ IsAttended true true (talk 3 (Looked true true ∷ begun))
 unread_row (inl (busy, moved)) = absurd cc

@@ -137,7 +137,7 @@ AsksForListing t = (rest : List ℕ) × GoesOn t rest × (asks_for_listing rest 
 
 -- a message is looked for, and isn't there to its end
 abbrev pub Awaits : Talk → Type 0
-Awaits t = (rest : List ℕ) × GoesOn t rest × IsUnfinished rest
+Awaits t = (t.has_ended ≡ false) × ((rest : List ℕ) × GoesOn t rest × IsUnfinished rest)
 
 -- the next message of what it said is that of the turn, it was answered before with all that was owed, and not since the last look
 pub record IsNext (t : Talk) (turn : Turn) : Type 0 where
@@ -237,8 +237,9 @@ HasRoom act place earlier = ⊤
 
 -- ---- a history
 
--- the turn is the next one, and asks for no listing
+-- the turn is the next one, a POST
 pub record MayJoin (t : Talk) (turn : Turn) : Type 0 where
+  pub method : turn.head.method ≡ codes "POST"
   pub next : IsNext t turn
   pub small : asks_for_listing next.rest ≡ false
 

@@ -1,5 +1,5 @@
 -- The next messages of some places are answered together.
-use Rattle.std.specs.Prelude.{◌≡◌, ◌⊎◌, ℕ, ◌<◌, ◌≤◌, Bool, true, false, List, [], ◌∷◌, drop, get_or, length, Option, Some, None, Vec, ⊤}
+use Rattle.std.specs.Prelude.{◌≡◌, ◌⊎◌, ℕ, ◌<◌, ◌≤◌, Bool, true, false, List, [], ◌∷◌, codes, drop, get_or, length, Option, Some, None, Vec, ⊤}
 use Rattle.std.specs.List.{AllZip, filter_map}
 use Rattle.std.specs.declared.alloc.Global.{Global}
 use Rattle.httparse.specs.Grammar.{RequestHead}
@@ -25,6 +25,7 @@ pub record Asked : Type 0 where
 -- a message that asks this is due, begins what was said and isn't answered, and is cut off so; it asks for no listing
 pub record IsCutOff (link : Link) (cut : Cut) (asked : Asked) : Type 0 where
   pub due : is_due link ≡ true
+  pub method : asked.head.method ≡ codes "POST"
   pub small : asks_for_listing link.said ≡ false
   pub begins : BeginsWith link.said asked.head asked.body (drop cut.used link.said)
   pub within : cut.used ≤ length link.said

@@ -75,6 +75,7 @@ pub record IsGoing (t : Talk) (link : Link) : Type 0 where
   pub counted : length t.turns ≡ link.messages
   pub owes : owed t ≡ t.took ++ link.pending
   pub awaited : link.is_awaited ≡ true → IsUnfinished link.said
+  pub unended : link.stage ≡ Open → t.has_ended ≡ false
   pub sized : is_none link.pending ≡ false → link.size ≡ length (last_owed t.refused t.turns)
 
 -- it says no more, and that isn't answered yet

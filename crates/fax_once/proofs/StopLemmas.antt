@@ -7,7 +7,6 @@ use Rattle.fax_core.specs.Ledger.{Ledger}
 use Rattle.fax_core.specs.Queue.{Queue}
 use Rattle.fax_core.specs.Reply.{NoKeys}
 use Rattle.fax_core.specs.Settings.{Settings}
-use Rattle.fax_decide.specs.Effect.{accepted}
 use Rattle.fax_store.specs.Store.{CommitsNothing, HasTables, Means, Serves}
 use Rattle.fax_store.specs.Work.{Opens, Withholds}
 use Rattle.fax_run.specs.Reading.{IsReading, Reading, Faulty, Sees, Posts}

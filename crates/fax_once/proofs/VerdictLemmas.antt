@@ -15,7 +15,7 @@ use Rattle.fax_core.specs.declared.ask.Ask.TheVariants.{GiveUp}
 use Rattle.fax_core.specs.Clock.{decided_at}
 use Rattle.fax_core.specs.Ageing.{aged}
 use Rattle.fax_core.specs.Machine.{act, stamped, step}
-use Rattle.fax_core.specs.Ledger.{Ledger, greater, entry, kept_for, is_through}
+use Rattle.fax_core.specs.Ledger.{Ledger, greater, kept_for, is_through}
 use Rattle.fax_core.specs.Queue.{Queue, Entry}
 use Rattle.fax_core.specs.Reply.{NoKeys, Taken}
 use Rattle.fax_core.specs.Settings.{Settings}

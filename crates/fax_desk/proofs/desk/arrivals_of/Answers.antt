@@ -1,7 +1,6 @@
-use Rattle.std.proofs.Common.{◌≡◌, ◌+◌, ◌<◌, ◌≤◌, ◌&&◌, ◌++◌, [], ◌∷◌, List, true, length, rules, subst, sym, take}
-use Rattle.std.proofs.lemmas.List.{take_all, take_more}
+use Rattle.std.proofs.Common.{◌<◌, ◌&&◌, List, true, length, rules, subst, sym, take}
+use Rattle.std.proofs.lemmas.List.{take_more}
 use Rattle.fax_http.specs.declared.message.Message.{Message}
-use Rattle.fax_http.specs.Joined.{AreMessages}
 use Rattle.fax_desk.proofs.ArriveLemmas.{HaveArrived, none_arrived, one_arrived}
 use Rattle.fax_desk.proofs.desk.arrivals_of.Goals as goal
 

@@ -1,6 +1,5 @@
 use Rattle.std.proofs.Common.{Ok}
 use Rattle.fax_ending.specs.Ending.{spoken}
-use Rattle.faxqd.specs.Command.{CarriesOut}
 use Rattle.faxqd.proofs.command.run.Goals as goal
 
 pub returns-in-Ok : goal.returns-in-Ok

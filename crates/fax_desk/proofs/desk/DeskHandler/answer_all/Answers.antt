@@ -28,7 +28,7 @@ returns-in_err-arrivals-clause-answered g c turns are =
           let store = tables g.S.Store old.queue in
           let came = c.arrivals_of.ensures.arrived turns are.parts in
           let refused : replies_of turns ≡ all_refused came.0 = are.replies ∙ ap (replies_to c.args.messages.now) c.from_residual.ensures
-              ∙ as_many g.C.Clock.gives (refused_response Unavailable NoKeys) old.clock c.arrivals_of.new.clock c.args.messages.now turns came.0 are.parts came.1 in (
+          ∙ as_many g.C.Clock.gives (refused_response Unavailable NoKeys) old.clock c.arrivals_of.new.clock c.args.messages.now turns came.0 are.parts came.1 in (
             came.0,
             came.1,
             subst (λ (rs : List Response). StopsIn s start came.0 rs store store) (sym refused) (failed_stops s start came.0 store store means (λ found may. inl may)),
