@@ -29,7 +29,9 @@ use Rattle.fax_run.specs.declared.arrival.Arrival.{Arrival}
 use Rattle.fax_once.proofs.HandledLemmas.{open_stops}
 use Rattle.fax_once.specs.Acceptance.{IsBy, left_by}
 use Rattle.fax_once.specs.Batch.{AreMadeByAll, IsGivenBy, RunsWithin, all_refused, is_accepted, replies_to, reply_in}
+use Rattle.fax_once.specs.Known.{Holds}
 use Rattle.fax_once.specs.Looking.{IsTold}
+use Rattle.fax_once.specs.declared.known.Known.{Known}
 use Rattle.fax_once.specs.Ran.{HasRun}
 use Rattle.fax_once.specs.Stop.{AtEnd, Before, Besides, IsLeftBehind, StopsIn}
 use Rattle.fax_once.specs.declared.acceptance.Answered.{Answered}
@@ -57,13 +59,14 @@ by_given : (x : Answered) (v : Verdict) → IsBy x v → IsGivenBy x v
 by_given (Unchanged reply) v is = inl is
 by_given (Accepted reply) v is = is
 
-pub new_given : (result : Result Answered Fault) (s : Settings) (a : Arrival) (store : State) (failed : Bool) (m₀ m : Queue) (k₀ k : Ledger) (v : Verdict) → IsVerdict s a m k v
+pub new_given : (result : Result Answered Fault) (s : Settings) (a : Arrival) (store : State) (failed : Bool) (m₀ m : Queue) (k₀ k : Ledger) (v : Verdict) (known : Known) → IsVerdict s a m k v
+    → OnOk result (Holds known (left_by m k v).queue)
     → MatchResult result
     (λ x. IsBy x v × Sound (left_by m k v).queue × IsUnderWay store failed m₀ k₀ (left_by m k v).queue (left_by m k v).kept) (λ fault. (fault ≡ NoAnswer) × IsUnderWay store failed m₀ k₀ m k)
     → MatchResult result
-    (λ x. (w : Verdict) × IsVerdict s a m k w × IsGivenBy x w × IsUnderWay store failed m₀ k₀ (left_by m k w).queue (left_by m k w).kept) (λ fault. (fault ≡ NoAnswer) × IsUnderWay store failed m₀ k₀ m k)
-new_given (Ok x) s a store failed m₀ m k₀ k v is (by, sound, under) = (v, is, by_given x v by, under)
-new_given (Err fault) s a store failed m₀ m k₀ k v is none = none
+    (λ x. (w : Verdict) × IsVerdict s a m k w × IsGivenBy x w × Holds known (left_by m k w).queue × IsUnderWay store failed m₀ k₀ (left_by m k w).queue (left_by m k w).kept) (λ fault. (fault ≡ NoAnswer) × IsUnderWay store failed m₀ k₀ m k)
+new_given (Ok x) s a store failed m₀ m k₀ k v known is knows (by, sound, under) = (v, is, by_given x v by, knows, under)
+new_given (Err fault) s a store failed m₀ m k₀ k v known is knows none = none
 
 -- the reply is that of the verdict
 given_reply : (x : Answered) (v : Verdict) → IsGivenBy x v → reply_in x ≡ reply_of v
@@ -89,7 +92,7 @@ neither true c is = absurd cc
 neither false c is = (refl, is)
 
 -- nothing has run at first
-pub runs_at_first : (s : Settings) (start : Start) (store : State) (failed : Bool) → IsUnderWay store failed start.queue start.kept start.queue start.kept → RunsWithin s start [] [] false store failed
+abbrev pub runs_at_first : (s : Settings) (start : Start) (store : State) (failed : Bool) → IsUnderWay store failed start.queue start.kept start.queue start.kept → RunsWithin s start [] [] false store failed
 runs_at_first s start store failed under = record { heard = []; all = refl; answered = refl; accepted = tt; still = λ none. refl; under = under }
 
 module _ (s : Settings) (start : Start) (arrivals : List Arrival) (replies : List Response) (b : Bool) (old : State) (was : Bool) (runs : RunsWithin s start arrivals replies b old was) where
@@ -114,6 +117,13 @@ module _ (s : Settings) (start : Start) (arrivals : List Arrival) (replies : Lis
         still = λ none. let parts = neither b (is_accepted x) none in leads ∙ given_still here.queue here.kept x v given parts.1 ∙ runs.still parts.0;
         under = subst (λ (e : Start). IsUnderWay new failed start.queue start.kept e.queue e.kept) (sym leads) under;
       }
+
+  -- and leads where the verdict leads
+  pub goes_end : (a : Arrival) (x : Answered) (new : State) (failed : Bool) (v : Verdict) (is : IsVerdict s a here.queue here.kept v) (given : IsGivenBy x v)
+      (under : IsUnderWay new failed start.queue start.kept (left_by here.queue here.kept v).queue (left_by here.queue here.kept v).kept)
+      → end_of s start (goes_within a x new failed v is given under).heard ≡ left_by here.queue here.kept v
+  unfolding goes_within
+  goes_end a x new failed v (r, reads, is) given under = runs_thread s start runs.heard r ∙ ap (left_of here) (sym is)
 
   -- ---- its end
 

@@ -13,3 +13,4 @@ pub mod BatchLemmas
 mod AnsweringLemmas
 mod ShutLemmas
 mod RowsLeft
+mod KnownLemmas

@@ -1,5 +1,5 @@
 -- A request whose number is new, decided and written within a work, as the contracts of the calls speak of it.
-use Rattle.std.specs.Prelude.{◌≡◌, ⊤, ℕ, true, false, List, Option, Result, IfOk, MatchResult, OnErr, OnOk}
+use Rattle.std.specs.Prelude.{◌≡◌, ⊤, ℕ, Bool, true, false, IfSome, List, Option, Result, IfOk, MatchResult, OnErr, OnOk}
 use Rattle.sqlite.specs.State.{HasCleanDisk}
 use Rattle.sqlite_trees.specs.declared.store.Store.{Ghosts}
 use Rattle.fax_ask.specs.Response.{Response}
@@ -32,6 +32,11 @@ use Rattle.fax_run.specs.Run.{Start}
 use Rattle.fax_run.specs.Verdict.{Verdict, Told, new_asked, without}
 use Rattle.fax_run.specs.Verdict as verdict
 use Rattle.fax_run.specs.declared.arrival.Arrival.{Arrival}
+use Rattle.fax_tables.specs.Fault.{OrUnavailable}
+use Rattle.fax_tables.specs.Meta.{meta_of}
+use Rattle.fax_tables.specs.declared.meta.Meta.{Meta}
+use Rattle.fax_once.specs.Known.{Holds, IsAged}
+use Rattle.fax_once.specs.declared.known.Known.{Known}
 use Rattle.fax_once.specs.Sender.{AsksStep}
 use Rattle.fax_once.specs.declared.acceptance.Answered.{Answered}
 use Rattle.fax_once.specs.declared.acceptance.Answered.TheVariants.{Unchanged, Accepted}
@@ -63,23 +68,30 @@ abbrev pub left_by : Queue → Ledger → Verdict → Start
 left_by m k v = left_of (record { queue = m; kept = k }) v
 
 module _ {S : Type 0} (g : Ghosts S) where
+  -- The clock and the next numbers are read, unless they are known.
+  pub record ReadsMeta (old new : Store S) (result : Result Meta StoreFault) (known : Option Meta) : Type 0 where
+    pub leaves : Looks g old new result
+    pub opens : OnOk result (StaysOpen (shown g old) (shown g new))
+    pub answers : (m : Queue) (k : Ledger) → MeansNow (shown g old) m k → IfSome known (λ meta. meta ≡ meta_of m) → Serves (shown g new)
+        → OrUnavailable result (λ meta. meta ≡ meta_of m)
+
   -- A request is decided at the later of a moment and the clock, and nothing changes.
-  pub record DecidesNow (old new : Store S) (result : Result Decided Fault) (s : Settings) (ask : Step) (moment : ℕ) : Type 0 where
+  pub record DecidesNow (old new : Store S) (result : Result Decided Fault) (s : Settings) (ask : Step) (moment : ℕ) (known : Option Meta) : Type 0 where
     -- The store is only looked at.
     pub leaves : Looks g old new result
     -- Where it is decided, a store that served serves still.
     pub opens : OnOk result (StaysOpen (shown g old) (shown g new))
     -- Of a sound queue the decision is the machine's, or memory or the store gave none.
-    pub decided : (m : Queue) (k : Ledger) → Sound m → MeansNow (shown g old) m k → Serves (shown g new) → IsRead ask
+    pub decided : (m : Queue) (k : Ledger) → Sound m → MeansNow (shown g old) m k → IfSome known (λ meta. meta ≡ meta_of m) → Serves (shown g new) → IsRead ask
         → OrNoAnswer result (λ d. (d.t ≡ decided_at m.clock moment) × Decides (act s (aged d.t m) d.t ask) m d.t d.decision)
 
   -- The same within a work, which goes on as it was, or can't be committed.
-  pub record DecidesWithin (old new : Work S) (result : Result Decided Fault) (s : Settings) (ask : Step) (moment : ℕ) : Type 0 where
+  pub record DecidesWithin (old new : Work S) (result : Result Decided Fault) (s : Settings) (ask : Step) (moment : ℕ) (known : Option Meta) : Type 0 where
     pub leaves : Follows g old new
     pub goes_on : OnOk result (new.failed ≡ false)
     pub keeps : Keeps (within g old) old.failed (within g new) new.failed
     pub opens : OnOk result (IsActive (within g old) old.failed → HasCleanDisk (within g new) → Serves (within g new))
-    pub decided : (m₀ m : Queue) (k₀ k : Ledger) → Sound m → Works (within g old) old.failed m₀ k₀ m k → Serves (within g new) → IsRead ask
+    pub decided : (m₀ m : Queue) (k₀ k : Ledger) → Sound m → Works (within g old) old.failed m₀ k₀ m k → IfSome known (λ meta. meta ≡ meta_of m) → Serves (within g new) → IsRead ask
         → OrNoAnswer result (λ d. (d.t ≡ decided_at m.clock moment) × Decides (act s (aged d.t m) d.t ask) m d.t d.decision)
 
   -- Within a work some writes make f of a queue of which P holds, and h of the kept replies.
@@ -94,22 +106,22 @@ module _ {S : Type 0} (g : Ghosts S) where
     pub cause : FailsOnly g old new result Q
 
   -- A request is accepted at t: its change is made within the work, and its reply is kept there.
-  pub record Accepts (old new : Work S) (result : Result Answered Fault) (t : ℕ) (change : Change) (sender : Sender) (said : List ℕ) (reply : Response) : Type 0 where
+  pub record Accepts (old new : Work S) (result : Result Answered Fault) (t : ℕ) (is_aged : Bool) (change : Change) (sender : Sender) (said : List ℕ) (reply : Response) : Type 0 where
     -- Nothing is committed, and the work goes on over the same store.
     pub leaves : Follows g old new
     pub goes_on : OnOk result (new.failed ≡ false)
     -- The answer is this reply, which may be kept.
     pub gives : IfOk result (λ x. (x ≡ Accepted reply) × IsKeptStatus reply.status)
     -- Where the change suits the aged queue, the work means what is made of it, or what it did, unless it can't be committed.
-    pub changes : (m₀ m : Queue) (k₀ k : Ledger) → Suits change.effect (with_expired t m) → Works (within g old) old.failed m₀ k₀ m k
+    pub changes : (m₀ m : Queue) (k₀ k : Ledger) → (is_aged ≡ true → IsAged t m) → Suits change.effect (with_expired t m) → Works (within g old) old.failed m₀ k₀ m k
         → MatchResult result (λ _. Works (within g new) new.failed m₀ k₀ (accepted t change.effect m) (kept_after sender said reply change.given k))
         (λ _. Works (within g new) new.failed m₀ k₀ m k)
     -- What is acceptable fails for want of memory or of the store alone.
-    pub cause : (m₀ m : Queue) (k₀ k : Ledger) → Works (within g old) old.failed m₀ k₀ m k → Serves (within g new) → IsAcceptable t change sender reply m k
+    pub cause : (m₀ m : Queue) (k₀ k : Ledger) → Works (within g old) old.failed m₀ k₀ m k → Serves (within g new) → (is_aged ≡ true → IsAged t m) → IsAcceptable t change sender reply m k
         → OnlyNoAnswer result
 
   -- A request whose number is new is answered within a work.
-  pub record AnswersWithin (old new : Work S) (result : Result Answered Fault) (s : Settings) (a : Arrival) (sender : Sender) (ask : Step) (floor : ℕ) : Type 0 where
+  pub record AnswersWithin (old new : Work S) (result : Result Answered Fault) (s : Settings) (a : Arrival) (sender : Sender) (ask : Step) (floor : ℕ) (known known₂ : Known) : Type 0 where
     -- Nothing is committed, and the work goes on over the same store.
     pub leaves : Follows g old new
     pub goes_on : OnOk result (new.failed ≡ false)
@@ -117,9 +129,12 @@ module _ {S : Type 0} (g : Ghosts S) where
     pub opens : OnOk result (IsActive (within g old) old.failed → HasCleanDisk (within g new) → Serves (within g new))
     pub kept : IfOk result MayBeKept
     -- Of a sound queue without a reply to the number the answer is that of its verdict, and the work means where that leads. Or memory or the store gave none: then the work means what it did, unless it can't be committed.
-    pub comes : (m₀ m : Queue) (k₀ k : Ledger) → Sound m → Works (within g old) old.failed m₀ k₀ m k → AsksStep a sender ask
+    pub comes : (m₀ m : Queue) (k₀ k : Ledger) → Sound m → Works (within g old) old.failed m₀ k₀ m k → Holds known m → AsksStep a sender ask
         → (Serves (within g old) → IsUnkept sender.client.now sender.number k.replies) → Serves (within g new)
         → (let v = new_asked s m k floor (post_of a sender.number ask) in
         MatchResult result
         (λ x. IsBy x v × Sound (left_by m k v).queue × IsUnderWay (within g new) new.failed m₀ k₀ (left_by m k v).queue (left_by m k v).kept)
         (λ fault. (fault ≡ NoAnswer) × IsUnderWay (within g new) new.failed m₀ k₀ m k))
+    -- What is known then holds of where the verdict leads.
+    pub knows : (m₀ m : Queue) (k₀ k : Ledger) → Sound m → Works (within g old) old.failed m₀ k₀ m k → Holds known m → AsksStep a sender ask → Serves (within g new)
+        → OnOk result (Holds known₂ (left_by m k (new_asked s m k floor (post_of a sender.number ask))).queue)

@@ -27,7 +27,9 @@ use Rattle.fax_run.specs.Verdict.{Verdict, IsVerdict, Told, Repeated}
 use Rattle.fax_run.specs.Verdict as verdict
 use Rattle.fax_run.specs.declared.arrival.Arrival.{Arrival}
 use Rattle.fax_once.specs.Acceptance.{left_by}
+use Rattle.fax_once.specs.Known.{Holds}
 use Rattle.fax_once.specs.Looking.{IsFound, IsFresh}
+use Rattle.fax_once.specs.declared.known.Known.{Known}
 use Rattle.fax_once.specs.declared.acceptance.Answered.{Answered}
 use Rattle.fax_once.specs.declared.acceptance.Answered.TheVariants.{Unchanged, Accepted}
 use Rattle.fax_once.specs.Stop.{StopsIn}
@@ -88,13 +90,13 @@ module _ {S : Type 0} (g : Ghosts S) (old new : Work S) where
     pub keeps : (m₀ m : Queue) (k₀ k : Ledger) → Works (within g old) old.failed m₀ k₀ m k → Works (within g new) new.failed m₀ k₀ m k
 
   -- An arrival is answered within a work by its verdict, and the work means where that leads. Or memory or the store gave no answer: then the work means what it did, unless it can't be committed.
-  pub record AnswersIn (result : Result Answered Fault) (s : Settings) (a : Arrival) : Type 0 where
+  pub record AnswersIn (result : Result Answered Fault) (s : Settings) (a : Arrival) (known known₂ : Known) : Type 0 where
     pub leaves : Follows g old new
     pub goes_on : OnOk result (new.failed ≡ false)
     pub opens : OpensWithin result
-    pub comes : (m₀ m : Queue) (k₀ k : Ledger) → Sound m → Works (within g old) old.failed m₀ k₀ m k → Serves (within g new)
+    pub comes : (m₀ m : Queue) (k₀ k : Ledger) → Sound m → Works (within g old) old.failed m₀ k₀ m k → Holds known m → Serves (within g new)
         → MatchResult result
-        (λ x. (v : Verdict) × IsVerdict s a m k v × IsGivenBy x v × IsUnderWay (within g new) new.failed m₀ k₀ (left_by m k v).queue (left_by m k v).kept)
+        (λ x. (v : Verdict) × IsVerdict s a m k v × IsGivenBy x v × Holds known₂ (left_by m k v).queue × IsUnderWay (within g new) new.failed m₀ k₀ (left_by m k v).queue (left_by m k v).kept)
         (λ fault. (fault ≡ NoAnswer) × IsUnderWay (within g new) new.failed m₀ k₀ m k)
 
   -- Arrivals are answered one after the other within a work that began at a sound queue.

@@ -7,3 +7,4 @@ pub mod Looking
 pub mod Queue
 pub mod Acceptance
 pub mod Batch
+pub mod Known

@@ -5,6 +5,7 @@ ghost use Rattle.fax_decide.specs.Settings.{settings_of};
 ghost use Rattle.fax_once.specs.Batch.{AnswersEach, AnswersIn, AnswersTogether, LooksWithin, is_accepted, reply_in};
 
 use crate::acceptance::{Answered, answer_new};
+use crate::known::Known;
 use crate::looking::{Looked, NewRequest, look_up};
 use fax_ask::{Reply, Routes};
 use fax_decide::{Fault, Office};
@@ -88,8 +89,9 @@ fn answer_each<S: Alter>(
         replies.new.items }
 {
     let mut has_accepted = false;
+    let mut known = Known::nothing();
     for arrival in arrivals {
-        let answered = answer_within(work, office, routes, alloc, arrival)?;
+        let answered = answer_within(work, office, routes, alloc, arrival, &mut known)?;
         has_accepted |= answered.is_accepted();
         if let Err(full) = replies.push(answered.into_reply()) {
             return Err(AllocError::from(full).into());
@@ -109,14 +111,15 @@ fn answer_within<S: Alter>(
     routes: &Routes,
     alloc: Global,
     arrival: &Arrival<'_>,
+    known: &mut Known,
 ) -> Result<Answered, Fault>
     requires { work.old.failed ≡ false }
-    ensures { AnswersIn S.Store work.old work.new result (settings_of office.now.setup office.now.controls) arrival.now }
+    ensures { AnswersIn S.Store work.old work.new result (settings_of office.now.setup office.now.controls) arrival.now known.old known.new }
 {
     match look_within(work, office, routes, alloc, arrival)? {
         Looked::Known(reply) => Ok(Answered::Unchanged(reply)),
         Looked::New(NewRequest { sender, ask, floor }) => {
-            answer_new(work, office, alloc, arrival, &sender, ask, floor)
+            answer_new(work, office, alloc, arrival, &sender, ask, floor, known)
         }
     }
 }

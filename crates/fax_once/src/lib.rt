@@ -5,6 +5,7 @@ mod acceptance;
 mod arrival;
 mod batch;
 mod floor;
+mod known;
 pub mod laws;
 mod looking;
 mod queue;

@@ -24,6 +24,7 @@ ghost use Rattle.fax_run.specs.declared.arrival.Arrival.{Arrival as ArrivalOf};
 use crate::acceptance::{Answered, answer_new};
 use crate::arrival::get;
 use crate::batch::{Batch, answer_together};
+use crate::known::Known;
 use crate::laws::{no_verdict_is_unavailable, one_verdict};
 use crate::looking::{Looked, NewRequest, look_up};
 use crate::sender::Sender;
@@ -283,7 +284,17 @@ impl<S: Alter> Queue<S> {
         ensures { AnswersNew S.Store self.old self.new result arrival.now sender.now ask floor }
     {
         let mut work = self.store.begin()?;
-        match answer_new(&mut work, &self.office, alloc, arrival, sender, ask, floor)? {
+        let mut known = Known::nothing();
+        match answer_new(
+            &mut work,
+            &self.office,
+            alloc,
+            arrival,
+            sender,
+            ask,
+            floor,
+            &mut known,
+        )? {
             Answered::Unchanged(reply) => Ok(reply),
             Answered::Accepted(reply) => {
                 work.commit()?;

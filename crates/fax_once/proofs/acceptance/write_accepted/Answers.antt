@@ -11,14 +11,14 @@ use Rattle.fax_run.specs.Verdict.{without}
 use Rattle.fax_once.proofs.VerdictLemmas.{unkept_still}
 use Rattle.fax_once.proofs.acceptance.write_accepted.Goals as goal
 
-pub returns-in_err-expire_all-clause-writes : goal.returns-in_err-expire_all-clause-writes
-returns-in_err-expire_all-clause-writes g c =
-    let fails : c.expire_all.new.self.failed ≡ true = c.in_err-expire_all.ensures.leaves.fails in
+pub returns-in_err-age-clause-writes : goal.returns-in_err-age-clause-writes
+returns-in_err-age-clause-writes g c =
+    let fails : c.age.new.work.failed ≡ true = c.in_err-age.ensures.fails in
     record {
-      leaves = follows_of g.S.Store _ _ _ c.expire_all.ensures.leaves;
+      leaves = c.age.ensures.leaves;
       fails = on_err c.from_residual.result fails;
-      changes = λ m₀ m k₀ k suits works. refused_any (state g.S.Store c.expire_all.new.self.store.now.conn) c.expire_all.new.self.failed m₀ _ _ k₀ _ _ fails (c.expire_all.ensures.changes m₀ m k₀ k works);
-      cause = λ m₀ m k₀ k works s fits. refused_as c.from_residual.result c.in_err-expire_all.field-0.0 c.from_residual.ensures.1 c.in_err-expire_all.ensures.cause;
+      changes = λ m₀ m k₀ k suits works. refused_any (state g.S.Store c.age.new.work.store.now.conn) c.age.new.work.failed m₀ _ _ k₀ _ _ fails (c.age.ensures.changes m₀ m k₀ k suits.0 works);
+      cause = λ m₀ m k₀ k works s fits. refused_as c.from_residual.result c.in_err-age.field-0.0 c.from_residual.ensures.1 (c.in_err-age.ensures.cause m₀ m k₀ k works s tt);
     }
 
 pub returns-in_err-write-clause-writes : goal.returns-in_err-write-clause-writes
@@ -26,11 +26,11 @@ returns-in_err-write-clause-writes g c =
     let fails : c.write.new.work.failed ≡ true = c.in_err-write.ensures.fails in
     let given = c.from_residual-in_err-write in
     record {
-      leaves = follows_then g.S.Store _ _ _ (follows_of g.S.Store _ _ _ c.expire_all.ensures.leaves) c.write.ensures.leaves;
+      leaves = follows_then g.S.Store _ _ _ c.age.ensures.leaves c.write.ensures.leaves;
       fails = on_err given.result fails;
       changes = λ m₀ m k₀ k suits works. refused_any (state g.S.Store c.write.new.work.store.now.conn) c.write.new.work.failed m₀ _ _ k₀ _ _ fails
-          (c.write.ensures.changes m₀ _ k₀ _ suits (c.expire_all.ensures.changes m₀ m k₀ k works));
-      cause = λ m₀ m k₀ k works s fits. refused_as given.result c.in_err-write.field-0.0 given.ensures.1 (c.in_err-write.ensures.cause m₀ _ k₀ _ (c.expire_all.ensures.changes m₀ m k₀ k works) s fits.0);
+          (c.write.ensures.changes m₀ _ k₀ _ suits.1 (c.age.ensures.changes m₀ m k₀ k suits.0 works));
+      cause = λ m₀ m k₀ k works s fits. refused_as given.result c.in_err-write.field-0.0 given.ensures.1 (c.in_err-write.ensures.cause m₀ _ k₀ _ (c.age.ensures.changes m₀ m k₀ k fits.0 works) s fits.1.0);
     }
 
 pub returns-in_err-give_up-clause-writes : goal.returns-in_err-give_up-clause-writes
@@ -38,24 +38,24 @@ returns-in_err-give_up-clause-writes g c =
     let fails : c.give_up.new.work.failed ≡ true = c.in_err-give_up.ensures.fails in
     let given = c.from_residual-in_err-give_up in
     record {
-      leaves = follows_then g.S.Store _ _ _ (follows_then g.S.Store _ _ _ (follows_of g.S.Store _ _ _ c.expire_all.ensures.leaves) c.write.ensures.leaves) c.give_up.ensures.leaves;
+      leaves = follows_then g.S.Store _ _ _ (follows_then g.S.Store _ _ _ c.age.ensures.leaves c.write.ensures.leaves) c.give_up.ensures.leaves;
       fails = on_err given.result fails;
       changes = λ m₀ m k₀ k suits works. refused_any (state g.S.Store c.give_up.new.work.store.now.conn) c.give_up.new.work.failed m₀ _ _ k₀ _ _ fails
-          (c.give_up.ensures.changes m₀ _ k₀ _ tt (c.write.ensures.changes m₀ _ k₀ _ suits (c.expire_all.ensures.changes m₀ m k₀ k works)));
+          (c.give_up.ensures.changes m₀ _ k₀ _ tt (c.write.ensures.changes m₀ _ k₀ _ suits.1 (c.age.ensures.changes m₀ m k₀ k suits.0 works)));
       cause = λ m₀ m k₀ k works s fits. refused_as given.result c.in_err-give_up.field-0.0 given.ensures.1
-          (c.in_err-give_up.ensures.cause m₀ _ k₀ _ (c.write.ensures.changes m₀ _ k₀ _ fits.0.suits (c.expire_all.ensures.changes m₀ m k₀ k works)) s fits.1);
+          (c.in_err-give_up.ensures.cause m₀ _ k₀ _ (c.write.ensures.changes m₀ _ k₀ _ fits.1.0.suits (c.age.ensures.changes m₀ m k₀ k fits.0 works)) s fits.1.1);
     }
 
 pub returns-clause-writes : goal.returns-clause-writes
 returns-clause-writes g c = record {
-  leaves = follows_then g.S.Store _ _ _ (follows_then g.S.Store _ _ _ (follows_then g.S.Store _ _ _ (follows_of g.S.Store _ _ _ c.expire_all.ensures.leaves) c.write.ensures.leaves) c.give_up.ensures.leaves) (follows_of g.S.Store _ _ _ c.keep.ensures.makes.leaves);
+  leaves = follows_then g.S.Store _ _ _ (follows_then g.S.Store _ _ _ (follows_then g.S.Store _ _ _ c.age.ensures.leaves c.write.ensures.leaves) c.give_up.ensures.leaves) (follows_of g.S.Store _ _ _ c.keep.ensures.makes.leaves);
   fails = search rules;
   changes = λ m₀ m k₀ k suits works.
       subst₂ (λ status body. Works (state g.S.Store c.keep.new.self.store.now.conn) c.keep.new.self.failed m₀ k₀ (accepted c.args.decided_at c.args.change.now.effect m)
       (with_reply (entry c.args.sender.now.client.now c.args.sender.now.number c.args.said.now status body) (without c.args.sender.now.client.now c.args.change.now.given k)))
       c.status.ensures c.body.ensures
-      (c.keep.ensures.makes.changes m₀ _ k₀ _ (c.give_up.ensures.changes m₀ _ k₀ _ tt (c.write.ensures.changes m₀ _ k₀ _ suits (c.expire_all.ensures.changes m₀ m k₀ k works))));
+      (c.keep.ensures.makes.changes m₀ _ k₀ _ (c.give_up.ensures.changes m₀ _ k₀ _ tt (c.write.ensures.changes m₀ _ k₀ _ suits.1 (c.age.ensures.changes m₀ m k₀ k suits.0 works))));
   cause = λ m₀ m k₀ k works s fits.
-      c.keep.ensures.makes.cause m₀ _ k₀ _ (c.give_up.ensures.changes m₀ _ k₀ _ tt (c.write.ensures.changes m₀ _ k₀ _ fits.0.suits (c.expire_all.ensures.changes m₀ m k₀ k works))) s
-      (fits.1, subst IsKeptStatus (sym c.status.ensures) fits.2, unkept_still c.args.sender.now.client.now c.args.sender.now.number c.args.sender.now.client.now c.args.change.now.given k fits.3);
+      c.keep.ensures.makes.cause m₀ _ k₀ _ (c.give_up.ensures.changes m₀ _ k₀ _ tt (c.write.ensures.changes m₀ _ k₀ _ fits.1.0.suits (c.age.ensures.changes m₀ m k₀ k fits.0 works))) s
+      (fits.1.1, subst IsKeptStatus (sym c.status.ensures) fits.1.2, unkept_still c.args.sender.now.client.now c.args.sender.now.number c.args.sender.now.client.now c.args.change.now.given k fits.1.3);
 }

@@ -4,11 +4,12 @@ use Rattle.fax_ask.specs.Response.{Response}
 use Rattle.fax_decide.specs.Settings.{settings_of}
 use Rattle.fax_store.proofs.FrameLemmas.{follows_at, follows_then}
 use Rattle.fax_store.specs.Calls.{within}
-use Rattle.fax_run.specs.Run.{Start}
+use Rattle.fax_run.specs.Run.{Start, end_of}
 use Rattle.fax_run.specs.declared.arrival.Arrival.{Arrival}
 use Rattle.fax_once.proofs.AnsweringLemmas.{active_serves, no_answer}
-use Rattle.fax_once.proofs.BatchLemmas.{goes_within, here_sound, runs_at_first}
+use Rattle.fax_once.proofs.BatchLemmas.{goes_end, goes_within, here_sound, runs_at_first}
 use Rattle.fax_once.specs.Batch.{RunsWithin, is_accepted, reply_in}
+use Rattle.fax_once.specs.Known.{Holds}
 use Rattle.fax_once.proofs.batch.answer_each.Goals as goal
 
 pub loop-arrival-init : goal.loop-arrival-init
@@ -21,8 +22,8 @@ loop-arrival-init g c = record {
       let s = settings_of c.args.office.now.setup c.args.office.now.controls in
       let start : Start = record { queue = m; kept = k } in
       let work = c.args.work.now in
-      subst (λ (rs : List Response). RunsWithin s start [] rs false (within g.S.Store work) work.failed) (sym c.requires.none)
-      (runs_at_first s start (within g.S.Store work) work.failed (works serves));
+      subst (λ (rs : List Response). (runs : RunsWithin s start [] rs false (within g.S.Store work) work.failed) × Holds c.nothing-known.result (end_of s start runs.heard).queue) (sym c.requires.none)
+      (runs_at_first s start (within g.S.Store work) work.failed (works serves), c.nothing-known.ensures m);
 }
 
 pub loop-arrival-preserved : goal.loop-arrival-preserved
@@ -35,6 +36,7 @@ loop-arrival-preserved g c =
     let new = c.answer_within.new.work in
     let a = c.arrival-item.result in
     let x = c.in_ok-answered.answered in
+    let told : c.push.new.self.items ≡ c.loop-arrival.replies.items ++ reply_in x ∷ [] = search rules in
     record {
       leaves = follows_then g.S.Store _ _ _ here.leaves answers.leaves;
       on = answers.goes_on;
@@ -45,18 +47,20 @@ loop-arrival-preserved g c =
           let start : Start = record { queue = m; kept = k } in
           let front = take i c.args.arrivals.now in
           let replies = c.loop-arrival.replies.items in
-          let runs = here.ran m k sound works (answers.leaves.served serves) in
-          let comes = answers.comes m _ k _ (here_sound s start front replies c.loop-arrival.has_accepted (within g.S.Store mid) mid.failed runs sound) (λ _. runs.under) serves in
-          let on = goes_within s start front replies c.loop-arrival.has_accepted (within g.S.Store mid) mid.failed runs a x (within g.S.Store new) new.failed comes.0 comes.1 comes.2 comes.3 in
+          let (runs, known) = here.ran m k sound works (answers.leaves.served serves) in
+          let comes = answers.comes m _ k _ (here_sound s start front replies c.loop-arrival.has_accepted (within g.S.Store mid) mid.failed runs sound) (λ _. runs.under) known serves in
+          let on = goes_within s start front replies c.loop-arrival.has_accepted (within g.S.Store mid) mid.failed runs a x (within g.S.Store new) new.failed comes.0 comes.1 comes.2 comes.4 in
+          let ends = goes_end s start front replies c.loop-arrival.has_accepted (within g.S.Store mid) mid.failed runs a x (within g.S.Store new) new.failed comes.0 comes.1 comes.2 comes.4 in
+          let known_on = subst (λ (e : Start). Holds c.answer_within.new.known e.queue) (sym ends) comes.3 in
           let low : i < length c.args.arrivals.now = search rules in
           let seen : take (i + 1) c.args.arrivals.now ≡ front ++ a ∷ [] = take_more c.args.arrivals.now i a low ∙ ap (λ (b : Arrival). front ++ b ∷ []) (sym c.arrival-item.is) in
-          let told : c.push.new.self.items ≡ replies ++ reply_in x ∷ [] = search rules in
           let flag : c.is_accepted-has_accepted.result ≡ is_accepted x = c.is_accepted-has_accepted.ensures in
           let has = c.loop-arrival.has_accepted in
           let now = within g.S.Store new in
-          subst (λ (arrivals : List Arrival). RunsWithin s start arrivals c.push.new.self.items (has || c.is_accepted-has_accepted.result) now new.failed) (sym seen)
-          (subst (λ (rs : List Response). RunsWithin s start (front ++ a ∷ []) rs (has || c.is_accepted-has_accepted.result) now new.failed) (sym told)
-          (subst (λ (b : Bool). RunsWithin s start (front ++ a ∷ []) (replies ++ reply_in x ∷ []) (has || b) now new.failed) (sym flag) on));
+          let Runs = λ (arrivals : List Arrival) (rs : List Response) (b : Bool). (runs : RunsWithin s start arrivals rs (has || b) now new.failed) × Holds c.answer_within.new.known (end_of s start runs.heard).queue in
+          subst (λ (arrivals : List Arrival). Runs arrivals c.push.new.self.items c.is_accepted-has_accepted.result) (sym seen)
+          (subst (λ (rs : List Response). Runs (front ++ a ∷ []) rs c.is_accepted-has_accepted.result) (sym told)
+          (subst (λ (b : Bool). Runs (front ++ a ∷ []) (replies ++ reply_in x ∷ []) b) (sym flag) (on, known_on)));
     }
 
 pub returns : goal.returns
@@ -73,7 +77,7 @@ returns g c =
           let start : Start = record { queue = m; kept = k } in
           let work = c.loop-arrival.work in
           subst (λ (arrivals : List Arrival). RunsWithin s start arrivals c.loop-arrival.replies.items c.loop-arrival.has_accepted (within g.S.Store work) work.failed)
-          (take_all c.loop-arrival.arrival-index c.args.arrivals.now all) (here.ran m k sound works serves);
+          (take_all c.loop-arrival.arrival-index c.args.arrivals.now all) (here.ran m k sound works serves).0;
     }
 
 pub returns-in_err-answered : goal.returns-in_err-answered
@@ -91,8 +95,8 @@ returns-in_err-answered g c =
           let s = settings_of c.args.office.now.setup c.args.office.now.controls in
           let start : Start = record { queue = m; kept = k } in
           let front = take c.loop-arrival.arrival-index c.args.arrivals.now in
-          let runs = here.ran m k sound works (answers.leaves.served serves) in
-          let comes = answers.comes m _ k _ (here_sound s start front c.loop-arrival.replies.items c.loop-arrival.has_accepted (within g.S.Store mid) mid.failed runs sound) (λ _. runs.under) serves in
+          let (runs, known) = here.ran m k sound works (answers.leaves.served serves) in
+          let comes = answers.comes m _ k _ (here_sound s start front c.loop-arrival.replies.items c.loop-arrival.has_accepted (within g.S.Store mid) mid.failed runs sound) (λ _. runs.under) known serves in
           no_answer given.result c.in_err-answered.field-0.0 _ given.ensures.1 comes.0 (_, _, comes.1);
     }
 
@@ -110,7 +114,7 @@ returns-in-Err g c =
           let s = settings_of c.args.office.now.setup c.args.office.now.controls in
           let start : Start = record { queue = m; kept = k } in
           let front = take c.loop-arrival.arrival-index c.args.arrivals.now in
-          let runs = here.ran m k sound works (answers.leaves.served serves) in
-          let comes = answers.comes m _ k _ (here_sound s start front c.loop-arrival.replies.items c.loop-arrival.has_accepted (within g.S.Store mid) mid.failed runs sound) (λ _. runs.under) serves in
-          (search rules, (_, _, comes.3));
+          let (runs, known) = here.ran m k sound works (answers.leaves.served serves) in
+          let comes = answers.comes m _ k _ (here_sound s start front c.loop-arrival.replies.items c.loop-arrival.has_accepted (within g.S.Store mid) mid.failed runs sound) (λ _. runs.under) known serves in
+          (search rules, (_, _, comes.4));
     }

@@ -43,7 +43,7 @@ returns-in_err-reply g c =
         unchanged = λ refused db ours rests. dropped.forgets db (answers.leaves.holds db (begun.at db ours rests));
       };
       comes = λ m k sound means asks fresh.
-          let none = answers.comes m m k k sound (begun.begun m k means) asks (λ at. fresh.unkept (begun.served at)) in
+          let none = answers.comes m m k k sound (begun.begun m k means) (c.nothing-known.ensures m) asks (λ at. fresh.unkept (begun.served at)) in
           record {
             crash = λ found may. inl (dropped_stops old _ _ (state g.S.Store c.drop-work.new.self.0.conn) _ _ begun.opens (has_tables old m k means) answers.leaves.crash dropped.crash found may);
             leaves = λ clean. refused_with given.result _ _ given.ensures.0 (dropped.undone m m k k (λ serves. (none serves).1));
@@ -69,7 +69,7 @@ returns-in-Unchanged g c =
       };
       comes = λ m k sound means asks fresh.
           let v = new_asked (settings_of c.args.self.now.office.setup c.args.self.now.office.controls) m k c.args.floor (post_of c.args.arrival.now c.args.sender.now.number c.args.ask) in
-          let left = answers.comes m m k k sound (begun.begun m k means) asks (λ at. fresh.unkept (begun.served at)) in
+          let left = answers.comes m m k k sound (begun.begun m k means) (c.nothing-known.ensures m) asks (λ at. fresh.unkept (begun.served at)) in
           let tables = has_tables old m k means in
           record {
             crash = λ found may. inl (dropped_stops old _ _ new _ _ begun.opens tables answers.leaves.crash dropped.crash found may);
@@ -99,7 +99,7 @@ returns-in_err-commit-in-Accepted g c =
       };
       comes = λ m k sound means asks fresh.
           let v = new_asked (settings_of c.args.self.now.office.setup c.args.self.now.office.controls) m k c.args.floor (post_of c.args.arrival.now c.args.sender.now.number c.args.ask) in
-          let left = answers.comes m m k k sound (begun.begun m k means) asks (λ at. fresh.unkept (begun.served at)) in
+          let left = answers.comes m m k k sound (begun.begun m k means) (c.nothing-known.ensures m) asks (λ at. fresh.unkept (begun.served at)) in
           let accepts = λ (at : Serves there). subst (λ x. IsLeft there work.failed m m k k x v) c.in-Accepted.is (left at) in
           record {
             crash = accepted_stops old _ there new _ work.failed begun.opens (has_tables old m k means) answers.leaves.crash m k v c.in-Accepted.reply accepts ended.clean
@@ -127,7 +127,7 @@ returns-in_ok-commit-in-Accepted g c =
       };
       comes = λ m k sound means asks fresh.
           let v = new_asked (settings_of c.args.self.now.office.setup c.args.self.now.office.controls) m k c.args.floor (post_of c.args.arrival.now c.args.sender.now.number c.args.ask) in
-          let left = answers.comes m m k k sound (begun.begun m k means) asks (λ at. fresh.unkept (begun.served at)) in
+          let left = answers.comes m m k k sound (begun.begun m k means) (c.nothing-known.ensures m) asks (λ at. fresh.unkept (begun.served at)) in
           let accepts = λ (at : Serves there). subst (λ x. IsLeft there work.failed m m k k x v) c.in-Accepted.is (left at) in
           record {
             crash = accepted_stops old _ there new _ work.failed begun.opens (has_tables old m k means) answers.leaves.crash m k v c.in-Accepted.reply accepts ended.clean
