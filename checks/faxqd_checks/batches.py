@@ -31,14 +31,14 @@ class Together(Server):
     """A server on the files of a folder whose calls of the disk are told in a journal, and CLIENTS connections to it."""
 
     def __init__(self, tools, files, **settings):
-        self.tools, self.folder_, self.journal = tools, tools.folder / "together", tools.folder / "journal"
+        self.tools, self.laid, self.journal = tools, tools.folder / "together", tools.folder / "journal"
         self.armed, self.peers = tools.folder / "armed", []
         for file in self.journal, self.armed:
             file.unlink(missing_ok=True)
         self.journal.touch()
-        lay(self.folder_, files)
-        told = {"DISK_FOLDER": self.folder_, "DISK_JOURNAL": self.journal, "DISK_ARMED": self.armed, "DISK_STOP": NEVER, **settings}
-        super().__init__(self.folder_ / NAME, "--setup", tools.folder / "setup", "--connections", "1000", port=tools.port,
+        lay(self.laid, files)
+        told = {"DISK_FOLDER": self.laid, "DISK_JOURNAL": self.journal, "DISK_ARMED": self.armed, "DISK_STOP": NEVER, **settings}
+        super().__init__(self.laid / NAME, "--setup", tools.folder / "setup", "--connections", "1000", port=tools.port,
                          before=preload(("clocks", "stop_disk"), FIXED_MOMENT=1000, **told), patience=PATIENCE)
         self.peers = [Peer(self.port, patience=PATIENCE) for _ in range(CLIENTS)]
         for peer in self.peers:  # so that each has its place
@@ -87,7 +87,7 @@ def undisturbed(tools, files, *rounds):
             expect(all(server.replies()), "a message isn't answered")
         server.process.kill()
         server.process.wait()
-        return taken(server.folder_)
+        return taken(server.laid)
 
 
 def has_kept(tools, files):
