@@ -130,6 +130,18 @@ def together(folder):
 
 
 @check
+def expired(folder):
+    """Faxes of a batch whose kill time is past fail by the next one of the same batch, as they would one after the other."""
+    tools = Tools(folder)
+    order = "number:5550111\ntotpages:1\nkilltime:500\n"
+    messages = [post("/jobs", 1, order, name_of(place)) if place % 2 == 0 else fax for place, fax in enumerate(faxes())]
+    files = undisturbed(tools, {}, messages)
+    found = [(row[7], row[17]) for row in sorted(rows(lay(tools.folder / "look", files))["jobs"])]
+    wanted = [(500, 4), (0, 1)] * (CLIENTS // 2)  # kill time and phase: failed, waiting
+    expect_same(found, wanted, "the jobs of a batch are left with these kill times and phases")
+
+
+@check
 def stopped(folder):
     """Stopped at any call of the disk, a batch has had no reply, and all of it is kept or none."""
     tools = Tools(folder)
