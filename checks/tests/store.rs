@@ -2,7 +2,7 @@
 //! Works that come to nothing, and one that adds a job.
 use fax_job::{Dial, Job, JobFields, JobTag, Moment, Name, Phase, RequestNumber, Status, Wish};
 use fax_lines::read_lines;
-use fax_store::{Store, StoreFault};
+use fax_store::{Meta, Store, StoreFault};
 use sqlite::Alter;
 use std::alloc::Global;
 use std::test::Fail;
@@ -14,10 +14,19 @@ fn holds<S: Alter>(store: &mut Store<S>, number: RequestNumber) -> Result<(Momen
     Ok((meta.clock, kept.is_some()))
 }
 
+/// A clock of 9, with the next numbers of a queue that never had a job.
+fn at_nine() -> Meta {
+    Meta {
+        clock: Moment::new(9),
+        next_job: 1,
+        next_grant: 1,
+    }
+}
+
 /// Sets the clock and keeps a reply, and lets the work go.
 fn drop_work<S: Alter>(store: &mut Store<S>, number: RequestNumber) -> Result<(), StoreFault> {
     let mut work = store.begin()?;
-    work.set_clock(Moment::new(9))?;
+    work.put_meta(at_nine())?;
     work.keep("ann", number, b"/", 200, b"")
 }
 
@@ -38,7 +47,7 @@ fn dropped_work_leaves_the_rows_before_it(rt: HostRuntime) -> Result<(), Fail> {
 /// Keeps two replies to one number, and commits.
 fn keep_twice<S: Alter>(store: &mut Store<S>, number: RequestNumber) -> Result<(), StoreFault> {
     let mut work = store.begin()?;
-    work.set_clock(Moment::new(9))?;
+    work.put_meta(at_nine())?;
     work.keep("ann", number, b"/", 200, b"")?;
     let _ = work.keep("ann", number, b"/", 200, b"");
     work.commit()
@@ -94,7 +103,11 @@ fn first_job(alloc: Global) -> Result<Option<Job>, Fail> {
 fn add<S: Alter>(store: &mut Store<S>, job: &Job) -> Result<(), StoreFault> {
     let meta = store.meta()?;
     let mut work = store.begin()?;
-    work.put_next_job(job, meta, Moment::new(9))?;
+    work.put_job(job, Moment::new(9))?;
+    work.put_meta(Meta {
+        next_job: meta.next_job + 1,
+        ..at_nine()
+    })?;
     work.commit()
 }
 

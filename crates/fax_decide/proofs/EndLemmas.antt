@@ -1,10 +1,10 @@
 -- What a changed job makes of the times.
-use Rattle.std.proofs.Common.{◌≡◌, ◌&&◌, false, Some, ap, eqb}
+use Rattle.std.proofs.Common.{◌≡◌, false, Some, ap}
 use Rattle.std.specs.Prelude.{ℕ, List}
 use Rattle.fax_core.specs.Job.{Job}
 use Rattle.fax_core.specs.Machine.{with_job}
 use Rattle.fax_core.specs.Queue.{Queue, job_numbered}
-use Rattle.fax_core.specs.Stamp.{ended_where, stamp}
+use Rattle.fax_core.specs.Stamp.{stamp}
 use Rattle.fax_core.specs.Times.{has_ended}
 use Rattle.fax_core.specs.declared.times.Times.{Times}
 use Rattle.fax_core.proofs.StampLemmas.{times_placed}

@@ -127,11 +127,11 @@ module _ (m after : Queue) (g : Grant) (sound : Sound m) (still : Sound after) (
   }
 
 -- so what is accepted takes no key that is taken
-pub keys_free : (t : ℕ) (effect : Effect) (m : Queue) → Sound m → Sound (accepted t effect m) → IsWithin effect (with_expired t m) → IsFree effect (with_expired t m)
-keys_free t (NewJob f meta) m sound still within = job_free t (job_of f) m (accepted t (NewJob f meta) m) refl refl still
+pub keys_free : (t : ℕ) (effect : Effect) (m : Queue) → Sound m → Sound (accepted t effect m) → IsWithin effect → IsFree effect (with_expired t m)
+keys_free t (NewJob f) m sound still within = job_free t (job_of f) m (accepted t (NewJob f) m) refl refl still
 keys_free t (NewGrant f g) m sound still within =
     let after = accepted t (NewGrant f g) m in
-    let free = grant_free m after g sound still refl within.0.is_open in
-    let held = still.held g.number g (new_open m after g sound still refl within.0.is_open) in
+    let free = grant_free m after g sound still refl within.is_open in
+    let held = still.held g.number g (new_open m after g sound still refl within.is_open) in
     (record { number = free.number; modem = free.modem; job = free.job }, (held.0, held.1))
 keys_free t effect m sound still within = tt

@@ -1,12 +1,11 @@
 -- What a new grant makes of the queue, and what is told of a grant.
-use Rattle.std.proofs.Common.{◌≡◌, ℕ, ◌+◌, ◌<◌, ◌==◌, ◌&&◌, true, false, cond, not, List, refl, sym, ap, subst, ◌∙◌, arith, Option, Some, None, is_some, Result, Ok, option_map, bytes_eq, eq-eqb}
+use Rattle.std.proofs.Common.{◌≡◌, ℕ, ◌+◌, ◌==◌, ◌&&◌, true, false, cond, not, List, refl, sym, ap, subst, ◌∙◌, arith, Option, Some, None, is_some, Result, Ok, option_map, bytes_eq, eq-eqb}
 use Rattle.std.proofs.lemmas.Bool.{and_from}
 use Rattle.fax_ask.specs.Answer.{Replied}
 use Rattle.fax_ask.specs.Response.{Response, accepted_response}
 use Rattle.fax_job.specs.declared.job.JobFields.{JobFields}
 use Rattle.fax_job.specs.declared.refusal.Refusal.{Refusal}
 use Rattle.fax_job.specs.declared.refusal.Refusal.TheVariants.{ModemBusy, ModemDown, NoModem}
-use Rattle.fax_value.specs.Limits.{last_grant}
 use Rattle.fax_core.specs.declared.change.Change.{Change}
 use Rattle.fax_core.specs.declared.grants.Grant.{Grant}
 use Rattle.fax_core.specs.Ageing.{aged, aged_job}
@@ -78,11 +77,13 @@ given_new m t c old f g reply sound there of n after goes new told =
     let left = with_new_grant (both (changed c j) g) (aged t m) in
     record {
       suits = order_kept m t c old f here after;
-      within = (new, (let left : m.next_grant < last_grant + 1 = omega (arith, n, new.limits.number.1) in left));
+      within = new;
+      left = omega (arith, n, new.limits.number.1);
       told = machine.Given (handed g left);
       taken = ap (λ (q : Queue). machine.Taken q (machine.Given (handed g left)))
           (queue_is m t f (changed c j) g sound (whole_changed m t c old f here after ∙ ap (changed c) bare) n j
           (subst (λ (i : ℕ). job_numbered i (aged t m) ≡ Some j) (sym (ap (λ (x : Job). x.number) (recorded_is (job_of f) (changed c j) after))) there) goes);
+      given = refl;
       replied = told left (dial_there (aged t m) c j f g there of (recorded_is (job_of f) (changed c j) after));
     }
 

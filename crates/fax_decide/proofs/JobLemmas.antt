@@ -74,6 +74,8 @@ module _ (m : Queue) (t : ℕ) (c : Change) (f g : JobFields) (there : job_numbe
       let lines = lines_of (job_numbered g.job (aged t m)) in record {
         suits = order_kept;
         within = tt;
+        left = tt;
+        given = refl;
         told = Stands g.job (state s m t (job_of g));
         taken = ap (λ (x : Job). Taken (stamp t (aged t m) (with_job x (aged t m))) (Stands x.number (state s (with_job x (aged t m)) t x))) (sym whole_changed)
             ∙ ap (λ (q : Queue). Taken q (Stands g.job (state s (with_job whole (aged t m)) t whole)))

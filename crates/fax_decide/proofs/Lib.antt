@@ -17,3 +17,4 @@ mod GivenLemmas
 mod KeptLemmas
 mod LookingLemmas
 pub mod FreeLemmas
+pub mod NumberedLemmas

@@ -1,5 +1,5 @@
 -- What is decided of a new job, which is submitted or brought in.
-use Rattle.std.proofs.Common.{◌≡◌, ℕ, ◌+◌, ◌≤◌, ◌<◌, Bool, true, false, cond, eqb, List, Result, Ok, Err, IfOk, IsOk, refl, sym, ap, ap₂, subst, ◌∙◌, arith, is_some, nat_lt, not, ◌&&◌}
+use Rattle.std.proofs.Common.{◌≡◌, ℕ, ◌+◌, ◌≤◌, Bool, true, false, cond, eqb, List, None, Result, Ok, Err, IfOk, IsOk, refl, sym, ap, ap₂, subst, ◌∙◌, arith, is_some, nat_lt, not, ◌&&◌}
 use Rattle.fax_value.specs.Limits.{last_job}
 use Rattle.fax_job.specs.declared.job.JobFields.{JobFields}
 use Rattle.fax_job.specs.declared.refusal.Refusal.{Refusal}
@@ -20,11 +20,9 @@ use Rattle.fax_core.specs.Submission.{recorded, rule_of}
 use Rattle.fax_core.proofs.DecisionLemmas.{not_refused, ok_same}
 use Rattle.fax_core.proofs.PlaceLemmas.{stays}
 use Rattle.fax_core.proofs.StepLemmas.{aged_sound}
-use Rattle.fax_tables.specs.Meta.{meta_of}
-use Rattle.fax_tables.specs.declared.meta.Meta.{Meta}
 use Rattle.fax_store.proofs.CountLemmas.{same_calls}
 use Rattle.fax_rule.specs.declared.rule.Rule as dest
-use Rattle.fax_decide.specs.Decision.{Decides, IsTaken}
+use Rattle.fax_decide.specs.Decision.{Decides, IsTaken, given_told}
 use Rattle.fax_decide.specs.declared.decision.Decision.{Decision}
 use Rattle.fax_decide.specs.declared.decision.Decision.TheVariants as decision
 use Rattle.fax_decide.specs.declared.fault.Fault.{Fault}
@@ -45,11 +43,13 @@ use Rattle.fax_core.specs.Decisions.{is_over, new_job, submit}
 -- ---- what is taken
 
 -- a job of the next number, within the limits, is taken, and told
-pub new_taken : (m : Queue) (t : ℕ) (f : JobFields) (meta : Meta) (told : Reply) (reply : Response) → Sound m → meta ≡ meta_of m → f.job ≡ m.next_job → f.job ≤ last_job
-    → reply ≡ accepted_response (Replied told) → IsTaken (Taken (with_new_job (job_of f) (aged t m)) told) m t (NewJob f meta) reply
-new_taken m t f meta told reply sound these next limit replied = record {
-  suits = these;
-  within = let left : m.next_job < last_job + 1 = omega (arith, next, limit) in left;
+pub new_taken : (m : Queue) (t : ℕ) (f : JobFields) (told : Reply) (reply : Response) → Sound m → f.job ≡ m.next_job → f.job ≤ last_job
+    → given_told told ≡ None → reply ≡ accepted_response (Replied told) → IsTaken (Taken (with_new_job (job_of f) (aged t m)) told) m t (NewJob f) reply
+new_taken m t f told reply sound next limit plain replied = record {
+  suits = tt;
+  within = tt;
+  left = omega (arith, next, limit);
+  given = sym plain;
   told = told;
   taken =
       let now = aged_sound t m sound in

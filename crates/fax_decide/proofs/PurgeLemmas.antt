@@ -135,6 +135,8 @@ pub purge_taken : (m : Queue) (t before : ℕ) (jobs : Vec ℕ) (count : ℕ) (r
 purge_taken m t before jobs count reply sound past is counted replied = record {
   suits = subst (λ (numbers : List ℕ). HaveNoCalls numbers (with_expired t m)) (sym is) (none_open m before sound);
   within = tt;
+  left = tt;
+  given = refl;
   told = machine.Purged count;
   taken =
       ap (λ (b : Bool). stamped t (aged t m) (cond b (machine.Refused PurgeHigh machine.NoKeys) (machine.Taken (without_jobs (leaving before (aged t m)) (aged t m)) (machine.Purged (length (leaving before (aged t m))))))) past

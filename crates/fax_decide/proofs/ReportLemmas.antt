@@ -1,5 +1,5 @@
 -- What is decided of a report on a grant.
-use Rattle.std.proofs.Common.{◌≡◌, ℕ, ◌≤◌, ◌-◌, true, false, not, Some, Ok, Err, List, refl, sym, ap, subst, ◌∙◌, Option, Result}
+use Rattle.std.proofs.Common.{◌≡◌, ℕ, ◌≤◌, ◌-◌, true, false, not, None, Some, Ok, Err, List, refl, sym, ap, subst, ◌∙◌, Option, Result}
 use Rattle.std.proofs.lemmas.Bool.{not-false}
 use Rattle.fax_value.specs.Limits.{most_pages}
 use Rattle.fax_job.specs.Pair.{Pair}
@@ -34,7 +34,7 @@ use Rattle.fax_decide.proofs.EndLemmas.{stamp_put}
 use Rattle.fax_store.specs.Grant.{IsSameGrant, with_shut}
 use Rattle.fax_store.specs.Job.{lines_of, with_change, with_expired}
 use Rattle.fax_store.specs.Meta.{with_clock}
-use Rattle.fax_decide.specs.Decision.{IsTaken, IsRefused}
+use Rattle.fax_decide.specs.Decision.{IsTaken, IsRefused, given_told}
 use Rattle.fax_decide.specs.Records.{job_in}
 use Rattle.fax_decide.specs.Report.{AreThere}
 use Rattle.fax_decide.specs.State.{state_with}
@@ -59,9 +59,9 @@ goes_there m t f g sound there is_open =
 -- job and grant are put in their places, and the reply to the report is told
 pub report_taken : (m : Queue) (t : ℕ) (c : Change) (f g : JobFields) (before grant : Grant) (reply_to : Queue → JobAndGrant → Reply) (reply : Response)
     → AreThere m t f before → IsSameGrant before grant → grant.number ≡ before.number → grant.confirmed ≤ most_pages → Ok (job_of g) ≡ recorded (Ok (changed c (job_of f))) → has_ended f.phase ≡ false
-    → ((n : Queue) → reply ≡ accepted_response (Replied (reply_to n (record { job = job_in (aged t m) g; grant = grant }))))
+    → ((n : Queue) (b : JobAndGrant) → given_told (reply_to n b) ≡ None) → ((n : Queue) → reply ≡ accepted_response (Replied (reply_to n (record { job = job_in (aged t m) g; grant = grant }))))
     → IsTaken (reported (aged t m) reply_to (job_in (aged t m) f) (Ok (record { job = changed c (job_in (aged t m) f); grant = grant }))) m t (Reported g grant) reply
-report_taken m t c f g before grant reply_to reply there same number few after goes replied = record {
+report_taken m t c f g before grant reply_to reply there same number few after goes plain replied = record {
   suits = (
     order_kept m t c f g there.job_there after,
     λ h is.
@@ -69,10 +69,12 @@ report_taken m t c f g before grant reply_to reply there same number few after g
         subst (λ (x : Grant). IsSameGrant x grant) (sym one) same,
   );
   within = few;
+  left = tt;
   told = reply_to (both (job_in (aged t m) g)) (record { job = job_in (aged t m) g; grant = grant });
   taken = ap (λ (x : Job). Taken (stamp t (aged t m) (both x)) (reply_to (both x) (record { job = x; grant = grant }))) (sym (whole_changed m t c f g there.job_there after))
       ∙ ap (λ (q : Queue). Taken q (reply_to (both (job_in (aged t m) g)) (record { job = job_in (aged t m) g; grant = grant })))
       (stamp_put t (aged t m) (both (job_in (aged t m) g)) (job_in (aged t m) f) (job_in (aged t m) g) refl (old_there m t c f g there.job_there after) goes);
+  given = sym (plain (both (job_in (aged t m) g)) (record { job = job_in (aged t m) g; grant = grant }));
   replied = replied (both (job_in (aged t m) g));
 }
   where
@@ -89,6 +91,7 @@ pub outcome_taken : (s : Settings) (m : Queue) (t : ℕ) (c : Change) (f g : Job
 outcome_taken s m t c f g grant reply sound there is_open after replied = record {
   suits = order_kept m t c f g there.job_there after;
   within = tt;
+  left = tt;
   told = Stands g.job (state_with s (job_of g) calls t);
   taken = ap (λ (x : Job). Taken (stamp t (aged t m) (both x)) (Stands x.number (state s (both x) t x))) (sym one)
       ∙ ap (λ (q : Queue). Taken q (Stands g.job (state s (both whole) t whole)))
@@ -99,6 +102,7 @@ outcome_taken s m t c f g grant reply sound there is_open after replied = record
       ∙ state_lined (lines_of (job_numbered g.job (aged t m))) g.phase (job_of g) ((s.rule g.dial).hours t) calls (s.rule g.dial).calls t)
       ∙ ap (λ (o : Option Grant). Taken (with_clock t (with_shut o (with_change t (job_of g) (with_expired t m))))
       (Stands g.job (state_with s (job_of g) calls t))) (sym there.grant_there);
+  given = refl;
   replied = replied;
 }
   where

@@ -1,5 +1,5 @@
 -- The times of jobs, as they are at a moment.
-use Rattle.std.proofs.Common.{◌≡◌, ◌∙◌, ◌&&◌, ℕ, Bool, true, false, cond, Option, Some, None, ap, refl, is_some, option_map, subst, sym}
+use Rattle.std.proofs.Common.{◌≡◌, ◌∙◌, ◌&&◌, ℕ, true, false, cond, Option, Some, None, ap, refl, is_some, option_map, sym}
 use Rattle.fax_core.specs.Ageing.{aged, expires, is_past}
 use Rattle.fax_core.specs.Job.{Job, fields_of}
 use Rattle.fax_core.specs.Queue.{Queue, job_numbered, times_numbered}

@@ -15,6 +15,10 @@ use Rattle.fax_decide.specs.Fault.{OnlyNoAnswer, OrNoAnswer}
 use Rattle.fax_decide.specs.declared.decision.Decision.{Decision}
 use Rattle.fax_decide.specs.declared.fault.Fault.{Fault}
 
+-- The decision is what the request does to the queue at t, and where it was read, memory or the store alone leave none.
+abbrev pub IsDecided : Result Decision Fault → Step → Queue → ℕ → Type 0 → Type 0
+IsDecided result step m t IsRead = IfOk result (Decides step m t) × (IsRead → OnlyNoAnswer result)
+
 module _ {S : Type 0} (g : _) where
   -- The call changes nothing, and where it answers, a store that served serves still. Of each queue that the tables mean now, within a work or not, this holds, as long as it serves.
   pub record Consults {A E : Type 0} (old new : Store S) (result : Result A E) (P : Queue → Type 0) : Type 0 where

@@ -26,6 +26,11 @@ abbrev pub IsReadOn : JobAsk → Type 0
 IsReadOn (Alter changes) = IsReadAlter changes
 IsReadOn other = ⊤
 
+-- a job is submitted
+abbrev pub IsSubmission : Ask → Type 0
+IsSubmission (Submission order) = ⊤
+IsSubmission other = ⊥
+
 -- what a request has of key lines was read
 abbrev pub IsRead : Ask → Type 0
 IsRead (Submission order) = IsReadOrder order

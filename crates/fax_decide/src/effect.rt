@@ -1,12 +1,14 @@
 //! What an accepted request changes in the tables.
 
 ghost use Rattle.std.specs.Prelude.{◌≡◌, true, OnErr};
+ghost use Rattle.fax_core.specs.Queue.{Queue};
+ghost use Rattle.fax_run.specs.Verdict.{without};
+ghost use Rattle.fax_value.specs.Name.{IsName};
 ghost use Rattle.fax_store.specs.Calls.{BecomesWhere, FailsOnly, Follows};
-ghost use Rattle.fax_store.specs.Meta.{with_clock};
-ghost use Rattle.fax_decide.specs.Effect.{IsWritable, Suits, effected};
+ghost use Rattle.fax_decide.specs.Effect.{IsNumberLeft, IsWritable, Suits, given_in, numbered, written};
 
 use fax_core::Grant;
-use fax_job::{Job, Moment, Name};
+use fax_job::{Job, Moment, Name, RequestNumber};
 use fax_store::{Meta, StoreFault, Work};
 use sqlite::Alter;
 
@@ -14,18 +16,20 @@ use sqlite::Alter;
 /// extra lines, whatever those of its record are.
 pub enum Effect {
     Nothing,
-    /// The job is new. These are the clock and the next numbers before it.
-    NewJob { job: Job, meta: Meta },
+    /// The job is new, of the next number.
+    NewJob(Job),
     /// The job of that number is now this one.
     ChangedJob(Job),
     /// The modem is marked as down, or as up.
     Marked { modem: Name, down: bool },
-    /// The job is now this one, and the grant is new.
+    /// The job is now this one, and the grant is new, of the next number.
     NewGrant { job: Job, grant: Grant },
     /// The job and the grant are now these.
     Reported { job: Job, grant: Grant },
     /// The job is now this one, and the grant of that number is closed.
     Closed { job: Job, grant: u32 },
+    /// The client gives up its replies through this number.
+    GivenUp { upto: RequestNumber },
     /// The jobs of these numbers leave, with their times and grants.
     Purged { jobs: Vec<u32> },
 }
@@ -35,48 +39,41 @@ impl Drop for Effect {
     fn drop(self) {
         match self {
             Effect::Nothing
-            | Effect::NewJob { job: _, meta: _ }
+            | Effect::NewJob(_)
             | Effect::ChangedJob(_)
             | Effect::Marked { modem: _, down: _ }
             | Effect::NewGrant { job: _, grant: _ }
             | Effect::Reported { job: _, grant: _ }
             | Effect::Closed { job: _, grant: _ }
+            | Effect::GivenUp { upto: _ }
             | Effect::Purged { jobs: _ } => {}
         }
     }
 }
 
 impl Effect {
-    /// Makes the change at `clock`, and sets the clock. For a new job the two are one statement.
+    /// Makes the change at `t` that this client asked for, but for the clock and the next numbers. It is at most two calls of
+    /// the work.
     ///
     /// # Errors
     ///
-    /// `Unavailable`, or `Strange` where what is new has a key that is taken, or what is written is
-    /// past its limits.
-    pub fn write<S: Alter>(&self, work: &mut Work<'_, S>, clock: Moment) -> Result<(), StoreFault>
+    /// `Unavailable`, or `Strange` where what is new has a key that is taken, what is written is past its limits, or the
+    /// client is no name.
+    pub fn write<S: Alter>(
+        &self,
+        work: &mut Work<'_, S>,
+        client: &str,
+        t: Moment,
+    ) -> Result<(), StoreFault>
         ensures leaves { Follows S.Store work.old work.new }
         ensures fails { OnErr result (work.new.failed ≡ true) }
-        ensures changes { BecomesWhere S.Store work.old work.new (Suits self.now)
-            (λ m. with_clock clock (effected clock self.now m)) (λ k. k) }
-        ensures cause { FailsOnly S.Store work.old work.new result (λ m k. IsWritable self.now m) }
-    {
-        if let Effect::NewJob { job, meta } = self {
-            return work.put_next_job(job, *meta, clock);
-        }
-        self.change(work, clock)?;
-        work.set_clock(clock)
-    }
-
-    /// Makes the change at `t`, by at most two calls of the work. A new job sets the clock.
-    fn change<S: Alter>(&self, work: &mut Work<'_, S>, t: Moment) -> Result<(), StoreFault>
-        ensures leaves { Follows S.Store work.old work.new }
-        ensures fails { OnErr result (work.new.failed ≡ true) }
-        ensures changes { BecomesWhere S.Store work.old work.new (Suits self.now) (effected t self.now) (λ k. k) }
-        ensures cause { FailsOnly S.Store work.old work.new result (λ m k. IsWritable self.now m) }
+        ensures changes { BecomesWhere S.Store work.old work.new (Suits self.now) (written t self.now)
+            (without client.now (given_in self.now)) }
+        ensures cause { FailsOnly S.Store work.old work.new result (λ m k. IsWritable self.now m × IsName client.now) }
     {
         match self {
             Effect::Nothing => Ok(()),
-            Effect::NewJob { job, meta } => work.put_next_job(job, *meta, t),
+            Effect::NewJob(job) => work.put_job(job, t),
             Effect::ChangedJob(job) => work.put_change(job, t),
             Effect::Marked { modem, down } => work.set_down(modem.as_str(), *down),
             Effect::NewGrant { job, grant } => {
@@ -91,7 +88,30 @@ impl Effect {
                 work.put_change(job, t)?;
                 work.close_grant(*grant)
             }
+            Effect::GivenUp { upto } => work.give_up(client, *upto),
             Effect::Purged { jobs } => work.purge(jobs.as_slice()),
         }
+    }
+
+    /// The clock and the next numbers after the change at `t`, where these are those before.
+    pub fn numbered(&self, t: Moment, before: Meta) -> Meta
+        ensures { (m : Queue) → IsNumberLeft self.now m → before.next_job ≡ m.next_job → before.next_grant ≡ m.next_grant
+            → result ≡ numbered t self.now before }
+    {
+        let mut after = Meta { clock: t, ..before };
+        match self {
+            Effect::NewJob(_) => after.next_job = after.next_job.saturating_add(1),
+            Effect::NewGrant { job: _, grant: _ } => {
+                after.next_grant = after.next_grant.saturating_add(1);
+            }
+            Effect::Nothing
+            | Effect::ChangedJob(_)
+            | Effect::Marked { modem: _, down: _ }
+            | Effect::Reported { job: _, grant: _ }
+            | Effect::Closed { job: _, grant: _ }
+            | Effect::GivenUp { upto: _ }
+            | Effect::Purged { jobs: _ } => {}
+        }
+        after
     }
 }

@@ -14,11 +14,10 @@ use fax_ask::Answer;
 use fax_job::RequestNumber;
 use std::alloc::Global;
 
-/// Decides that a client gives up its replies through a number, which is its floor from now on. The queue knows nothing of
-/// floors.
+/// Decides that a client gives up its replies through a number, which is its floor from now on.
 pub(crate) fn decide_floor(alloc: Global, upto: RequestNumber) -> Result<Decision, Fault>
     ensures { (m : Queue) (t : ℕ) → OrNoAnswer result (Decides (Taken (aged t m) (Floored upto)) m t) }
 {
     let reply = answered(alloc, &Answer::Floored { floor: upto.get() });
-    take(Effect::Nothing, reply)
+    take(Effect::GivenUp { upto }, reply)
 }

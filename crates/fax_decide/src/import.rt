@@ -12,7 +12,6 @@ ghost use Rattle.fax_core.specs.Settings.{Rule as MachineRule};
 ghost use Rattle.fax_core.specs.Sound.{Sound};
 ghost use Rattle.fax_core.specs.State.{state as job_state};
 ghost use Rattle.fax_job.specs.Job.{IsLawful};
-ghost use Rattle.fax_tables.specs.Meta.{meta_of};
 ghost use Rattle.fax_decide.specs.Decision.{Decides};
 ghost use Rattle.fax_decide.specs.Fault.{OrNoAnswer};
 ghost use Rattle.fax_decide.specs.Looking.{Consults, DecidesBy};
@@ -49,7 +48,7 @@ pub(crate) fn decide_import<S: Alter>(
 {
     let rule = office.rule_of(alloc, &import.order.dial)?;
     match bring(import, rule, meta.next_job, office.setup.max_jobs(), t) {
-        Ok(job) => brought(store, office, alloc, job, *meta, t),
+        Ok(job) => brought(store, office, alloc, job, t),
         Err(refusal) => refused(alloc, refusal, rule),
     }
 }
@@ -60,15 +59,14 @@ fn brought<S: Alter>(
     office: &Office,
     alloc: Global,
     job: Job,
-    meta: Meta,
     t: Moment,
 ) -> Result<Decision, Fault>
     ensures { Consults S.Store store.old store.new result (λ m. (rule : MachineRule) → Sound m
-        → meta ≡ meta_of m → job.job ≡ m.next_job → OrNoAnswer result (Decides
+        → job.job ≡ m.next_job → OrNoAnswer result (Decides
         (brought_in (settings_of office.now.setup office.now.controls) (aged t m) t rule (Ok (job_of job))) m t)) }
 {
     let reply = told(store, office, alloc, &job, t);
-    take(Effect::NewJob { job, meta }, reply)
+    take(Effect::NewJob(job), reply)
 }
 
 /// The reply that tells a new job and its state at `t`.

@@ -1,9 +1,13 @@
 //! Any request: what is decided of it.
 
+ghost use Rattle.std.specs.Prelude.{◌≡◌};
 ghost use Rattle.fax_core.specs.Ageing.{aged};
 ghost use Rattle.fax_core.specs.Machine.{act};
-ghost use Rattle.fax_decide.specs.Looking.{DecidesBy};
-ghost use Rattle.fax_decide.specs.Read.{IsRead};
+ghost use Rattle.fax_core.specs.Queue.{Queue};
+ghost use Rattle.fax_core.specs.Sound.{Sound};
+ghost use Rattle.fax_tables.specs.Meta.{meta_of};
+ghost use Rattle.fax_decide.specs.Looking.{DecidesBy, IsDecided};
+ghost use Rattle.fax_decide.specs.Read.{IsRead, IsSubmission};
 ghost use Rattle.fax_decide.specs.Settings.{settings_of};
 
 use crate::choice::decide_next;
@@ -36,8 +40,11 @@ pub fn decide<S: Alter>(
     meta: &Meta,
     t: Moment,
 ) -> Result<Decision, Fault>
-    ensures { DecidesBy S.Store store.old store.new result meta.now t
+    ensures decides { DecidesBy S.Store store.old store.new result meta.now t
         (λ m. act (settings_of office.now.setup office.now.controls) (aged t m) t ask) (IsRead ask) }
+    // A submission is decided by the clock and the next numbers alone, whatever the tables say.
+    ensures submits { IsSubmission ask → (m : Queue) → Sound m → meta.now ≡ meta_of m
+        → IsDecided result (act (settings_of office.now.setup office.now.controls) (aged t m) t ask) m t (IsRead ask) }
 {
     match ask {
         Ask::Submission(order) => decide_submission(office, alloc, order, meta, t),

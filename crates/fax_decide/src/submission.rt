@@ -43,20 +43,20 @@ pub(crate) fn decide_submission(
 {
     let rule = office.rule_of(alloc, &order.dial)?;
     match submit(order, rule, meta.next_job, office.setup.max_jobs(), t) {
-        Ok(job) => taken(alloc, job, *meta),
+        Ok(job) => taken(alloc, job),
         Err(refusal) => refused(alloc, refusal, rule),
     }
 }
 
 /// The job is new, and its number is told.
-fn taken(alloc: Global, job: Job, meta: Meta) -> Result<Decision, Fault>
-    ensures { (m : Queue) (t : ℕ) (rule : MachineRule) → Sound m → meta ≡ meta_of m → job.job ≡ m.next_job
+fn taken(alloc: Global, job: Job) -> Result<Decision, Fault>
+    ensures { (m : Queue) (t : ℕ) (rule : MachineRule) → Sound m → job.job ≡ m.next_job
         → OrNoAnswer result (Decides (submitted (aged t m) rule (Ok (job_of job))) m t) }
 {
     let answer = Answer::Submitted {
         job: job.fields().job,
     };
-    take(Effect::NewJob { job, meta }, answered(alloc, &answer))
+    take(Effect::NewJob(job), answered(alloc, &answer))
 }
 
 /// A submission or an import is refused: a rejected one is told the notice of its rule. Where the job would be no lawful

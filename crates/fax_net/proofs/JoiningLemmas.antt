@@ -21,7 +21,7 @@ use Rattle.fax_net.specs.History.{MayJoin, asks_for_listing, Step, Talk, Togethe
 use Rattle.fax_net.specs.Joining.{Asked, FitsIn, Gathers, GathersTo, HasJoined, HasReply, IsCutAt, IsCutOff, IsDuePost, IsGiven, given, replies_in, turn_of, turns_of}
 use Rattle.fax_net.specs.Link.{Holds, IsGoing, is_due}
 use Rattle.fax_net.specs.Lists.{is_none}
-use Rattle.fax_net.specs.Many.{AllHold, GoesReady, Runs}
+use Rattle.fax_net.specs.Many.{AllHold, GoesReady, HaveMoved, Runs}
 use Rattle.fax_net.specs.declared.link.Link.{Link}
 use Rattle.fax_net.specs.declared.link.Stage.TheVariants.{Open}
 use Rattle.fax_net.proofs.ConversingLemmas.{answered_holds, last_holds, next_is}
@@ -419,8 +419,8 @@ module _ {P H : Type 0} (did : P → Step → P → Type 0) (answers : Replying 
       below_or : (n : ℕ) → (n < length links) ⊎ (length links ≤ n)
       below_or n = less_or n (length links)
 
-  pub goes_joined : GoesReady did answers over count peers handler₂ links₂ start first earlier
-  goes_joined = record {
+  pub goes_joined : (held_back : List Bool) → ((later : List Step) → HaveMoved later held_back) → GoesReady did answers over count peers handler₂ links₂ held_back start first earlier
+  goes_joined held_back moved = record {
     later = Together turns (over handler₂) ∷ earlier;
     runs = record {
       happens = runs.happens;
@@ -431,4 +431,5 @@ module _ {P H : Type 0} (did : P → Step → P → Type 0) (answers : Replying 
     comings_are = refl;
     looks_are = refl;
     fresh = λ k d below none. (at_place k d (omega (arith, below, it.gives.as_many))).2 none;
+    moved = moved (Together turns (over handler₂) ∷ earlier);
   }

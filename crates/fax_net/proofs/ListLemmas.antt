@@ -1,5 +1,5 @@
 -- Lists, and tests.
-use Rattle.std.proofs.Common.{◌≡◌, ◌⊎◌, inl, inr, ℕ, ◌<◌, Bool, true, false, not, ◌&&◌, ◌==◌, List, [], ◌∷◌, ◌++◌, length, nat_eq, refl, ap, sym, ◌∙◌, arith}
+use Rattle.std.proofs.Common.{◌≡◌, ◌⊎◌, inl, inr, ℕ, zero, suc, ◌<◌, Bool, true, false, not, ◌&&◌, ◌==◌, List, [], ◌∷◌, ◌++◌, get_or, replicate, length, nat_eq, refl, ap, sym, ◌∙◌, arith}
 use Rattle.std.proofs.lemmas.Bool.{eq-eqb, eqb-true}
 use Rattle.fax_net.specs.Lists.{is_none}
 
@@ -48,3 +48,9 @@ both false b e = absurd cc
 pub not_true : (a : Bool) → not a ≡ true → a ≡ false
 not_true true e = absurd cc
 not_true false e = refl
+
+-- none of a list of flags is set that are made so
+pub none_set : (n k : ℕ) → get_or (replicate n false) k false ≡ false
+none_set zero k = refl
+none_set (suc n) zero = refl
+none_set (suc n) (suc k) = none_set n k

@@ -8,7 +8,7 @@ use Rattle.fax_net.specs.Deeds.{TakesIn, Writes}
 use Rattle.fax_net.specs.Joining.{Joins}
 use Rattle.fax_net.specs.Link.{HasSaidAll, Holds, IsEnding, IsGoing}
 use Rattle.fax_net.specs.Lists.{is_none}
-use Rattle.fax_net.specs.Many.{AllHold, AreFresh, GoesFrom, GoesReady, GoesRound, Moves, Readies, Rounds, Runs, ServesMany}
+use Rattle.fax_net.specs.Many.{AllHold, AreFresh, GoesFrom, GoesReady, GoesRound, HaveMoved, Moves, Readies, Rounds, Runs, ServesMany}
 use Rattle.fax_net.specs.declared.link.Link.{Link}
 use Rattle.fax_net.specs.declared.link.Stage.{Stage}
 use Rattle.fax_net.specs.declared.link.Stage.TheVariants.{Free, Open, Ended, Ending}
@@ -24,6 +24,11 @@ attended_or : (a b c : Bool) (t : Talk) → IsAttended a c t → IsAttended (a |
 attended_or true b c t at = at
 attended_or false b c t (inl (is, moved)) = absurd cc
 attended_or false b c t (inr quiet) = inr quiet
+
+-- so is one where more is to do at once
+attended_on : (b c : Bool) (t : Talk) → IsAttended b c t → IsAttended true c t
+attended_on b c t (inl (is, moved)) = inl (refl, moved)
+attended_on b c t (inr quiet) = inr quiet
 
 -- so is one behind others
 attended_behind : (a b c : Bool) (t : Talk) → IsAttended b c t → IsAttended (a || b) c t
@@ -68,34 +73,36 @@ module _ {P H : Type 0} (did : P → Step → P → Type 0) (answers : Replying 
     pub left_is : comings later + left ≡ comings earlier + left₀
     pub looks_are : looks later ≡ looks earlier
     pub fresh : (k : ℕ) (d : Link) → place ≤ k → k < length links → is_none (get_or links k d).pending ≡ true → (talk k later).replies ≡ 0
+    pub still : (k : ℕ) → place ≤ k → talk k later ≡ talk k earlier
     pub attended : over handler ≡ false → (k : ℕ) → k < place → IsAttended is_busy (nat_lt 0 left) (talk k later)
 
 module _ {P H : Type 0} (did : P → Step → P → Type 0) (answers : Replying H) (over : H → Bool) where
-  abbrev pub RoundsTo : ℕ → P → P → H → H → List Link → List Link → ℕ → ℕ → Bool → Type 0
-  RoundsTo place peers₀ peers handler₀ handler links₀ links left₀ left is_busy =
+  abbrev pub RoundsTo : ℕ → P → P → H → H → List Link → List Link → ℕ → ℕ → List Bool → Bool → Type 0
+  RoundsTo place peers₀ peers handler₀ handler links₀ links left₀ left held_back is_busy =
       (count : ℕ) (start : P) (first : H) (earlier : List Step) → Runs did answers over count start first earlier peers₀ handler₀ → AllHold earlier links₀
-      → AreFresh earlier links₀ → RoundTo did answers over count place peers handler links left₀ left is_busy start first earlier
+      → AreFresh earlier links₀ → HaveMoved earlier held_back → RoundTo did answers over count place peers handler links left₀ left is_busy start first earlier
 
   -- no place had its turn yet
-  pub round_begins : (peers : P) (handler : H) (links : List Link) (left : ℕ) → RoundsTo 0 peers peers handler handler links links left left false
-  round_begins peers handler links left count start first earlier runs all fresh = record {
+  pub round_begins : (peers : P) (handler : H) (links : List Link) (left : ℕ) (held_back : List Bool) → RoundsTo 0 peers peers handler handler links links left left held_back false
+  round_begins peers handler links left held_back count start first earlier runs all fresh moved = record {
     later = earlier;
     runs = runs;
     holds = all;
     left_is = refl;
     looks_are = refl;
     fresh = λ k d after within. fresh k d within;
+    still = λ k after. refl;
     attended = λ on k below. absurd (omega (arith, below));
   }
 
-  module _ (place : ℕ) (peers₀ peers peers₂ : P) (handler₀ handler handler₂ : H) (links₀ links : List Link) (link₂ : Link) (left₀ left left₂ : ℕ) (is_busy moved : Bool) (d : Link) where
+  module _ (place : ℕ) (peers₀ peers peers₂ : P) (handler₀ handler handler₂ : H) (links₀ links : List Link) (link₂ : Link) (left₀ left left₂ : ℕ) (held_back : List Bool) (is_busy moved : Bool) (d : Link) where
     -- one place more had its turn
-    pub round_next : (Known : List Step → Type 0) → over handler ≡ false → RoundsTo place peers₀ peers handler₀ handler links₀ links left₀ left is_busy → place < 64 → length links ≡ 64
+    pub round_next : (Known : List Step → Type 0) → over handler ≡ false → RoundsTo place peers₀ peers handler₀ handler links₀ links left₀ left held_back is_busy → place < 64 → length links ≡ 64
         → ((history : List Step) → AllHold history links → Known history)
         → Moves did answers over place peers peers₂ handler handler₂ (get_or links place d) link₂ left left₂ Known moved (IsAttended moved (nat_lt 0 left₂))
-        → RoundsTo (place + 1) peers₀ peers₂ handler₀ handler₂ links₀ (set links place link₂) left₀ left₂ (is_busy || moved)
-    round_next Known was_on far below size known moves count start first earlier runs all fresh =
-        let r = far count start first earlier runs all fresh in
+        → RoundsTo (place + 1) peers₀ peers₂ handler₀ handler₂ links₀ (set links place link₂) left₀ left₂ held_back (is_busy || moved)
+    round_next Known was_on far below size known moves count start first earlier runs all fresh have =
+        let r = far count start first earlier runs all fresh have in
         let g : GoesFrom did answers over count place peers₂ handler₂ link₂ left left₂ moved (IsAttended moved (nat_lt 0 left₂)) start first r.later =
         moves count start first r.later r.runs below (r.holds place d (omega (arith, below, size))) (r.fresh place d (omega arith) (omega (arith, below, size))) (known r.later r.holds) in
         record {
@@ -109,6 +116,7 @@ module _ {P H : Type 0} (did : P → Step → P → Type 0) (answers : Replying 
               let still = get_or-set_other links place k link₂ e (λ is. unlike (sym is)) in
               ap (λ t. t.replies) (g.others k unlike)
               ∙ r.fresh k e (omega (arith, after)) (omega (arith, within, length-set {A = Link})) (ap (λ (l : Link). is_none l.pending) (sym still) ∙ none);
+          still = λ k after. g.others k (λ is. omega (arith, is, after)) ∙ r.still k (omega (arith, after));
           attended = λ on k under. elim (same_or place k) [
             | inl is ↦ subst (λ j. IsAttended (is_busy || moved) (nat_lt 0 left₂) (talk j g.later)) is (attended_behind is_busy moved (nat_lt 0 left₂) (talk place g.later) g.also)
             | inr unlike ↦ subst (λ t. IsAttended (is_busy || moved) (nat_lt 0 left₂) t) (sym (g.others k unlike))
@@ -117,22 +125,40 @@ module _ {P H : Type 0} (did : P → Step → P → Type 0) (answers : Replying 
           ];
         }
 
-  module _ (place : ℕ) (peers₀ peers : P) (handler₀ handler : H) (links₀ links : List Link) (left₀ left : ℕ) (is_busy : Bool)
-      (far : RoundsTo place peers₀ peers handler₀ handler links₀ links left₀ left is_busy) where
+  module _ (place : ℕ) (peers₀ peers : P) (handler₀ handler : H) (links₀ links : List Link) (left₀ left : ℕ) (held_back : List Bool) (is_busy : Bool)
+      (far : RoundsTo place peers₀ peers handler₀ handler links₀ links left₀ left held_back is_busy) where
+    -- a place where something moved is held back, and more is to do there at once
+    pub round_held : get_or held_back place false ≡ true → RoundsTo (place + 1) peers₀ peers handler₀ handler links₀ links left₀ left held_back true
+    round_held held count start first earlier runs all fresh have =
+        let r = far count start first earlier runs all fresh have in
+        record {
+          later = r.later;
+          runs = r.runs;
+          holds = r.holds;
+          left_is = r.left_is;
+          looks_are = r.looks_are;
+          fresh = λ k e after. r.fresh k e (omega (arith, after));
+          still = λ k after. r.still k (omega (arith, after));
+          attended = λ on k under. elim (same_or place k) [
+            | inl is ↦ subst (λ j. IsAttended true (nat_lt 0 left) (talk j r.later)) is (inl (refl, ap (λ (t : Talk). t.is_moved) (r.still place (omega arith)) ∙ have place held))
+            | inr unlike ↦ attended_on is_busy (nat_lt 0 left) (talk k r.later) (r.attended on k (below_next k place under unlike))
+          ];
+        }
+
     -- where all 64 places had their turn, the round is over
-    pub round_ends : 64 ≤ place → Rounds did answers over peers₀ peers handler₀ handler links₀ links left₀ left is_busy
-    round_ends all_of count start first earlier runs all fresh =
-        let r = far count start first earlier runs all fresh in
+    pub round_ends : 64 ≤ place → Rounds did answers over peers₀ peers handler₀ handler links₀ links left₀ left held_back is_busy
+    round_ends all_of count start first earlier runs all fresh have =
+        let r = far count start first earlier runs all fresh have in
         record { later = r.later; runs = r.runs; holds = r.holds; left_is = r.left_is; looks_are = r.looks_are; attended = λ on k below. r.attended on k (omega (arith, below, all_of)) }
 
 module _ {P H : Type 0} (did : P → Step → P → Type 0) (answers : Replying H) (over : H → Bool) (place : ℕ) (peers₀ peers peers₂ : P) (handler₀ handler : H) (links₀ links : List Link) (link₂ : Link)
-    (left₀ left : ℕ) (is_busy moved : Bool) (d : Link) where
+    (left₀ left : ℕ) (held_back : List Bool) (is_busy moved : Bool) (d : Link) where
   -- where who answers is over, what is owed to one place more is written
-  pub round_written : over handler ≡ true → RoundsTo did answers over place peers₀ peers handler₀ handler links₀ links left₀ left is_busy → place < 64 → length links ≡ 64
+  pub round_written : over handler ≡ true → RoundsTo did answers over place peers₀ peers handler₀ handler links₀ links left₀ left held_back is_busy → place < 64 → length links ≡ 64
       → Writes did place peers peers₂ (get_or links place d) link₂ moved
-      → RoundsTo did answers over (place + 1) peers₀ peers₂ handler₀ handler links₀ (set links place link₂) left₀ left is_busy
-  round_written is far below size writes count start first earlier runs all fresh =
-      let r = far count start first earlier runs all fresh in
+      → RoundsTo did answers over (place + 1) peers₀ peers₂ handler₀ handler links₀ (set links place link₂) left₀ left held_back is_busy
+  round_written is far below size writes count start first earlier runs all fresh have =
+      let r = far count start first earlier runs all fresh have in
       let g = goes_writes did answers over count place below start first r.later peers handler r.runs peers₂ (get_or links place d) link₂ moved writes (r.holds place d (omega (arith, below, size))) in
       record {
         later = g.later;
@@ -145,6 +171,7 @@ module _ {P H : Type 0} (did : P → Step → P → Type 0) (answers : Replying 
             let still = get_or-set_other links place k link₂ e (λ same. unlike (sym same)) in
             ap (λ t. t.replies) (g.others k unlike)
             ∙ r.fresh k e (omega (arith, after)) (omega (arith, within, length-set {A = Link})) (ap (λ (l : Link). is_none l.pending) (sym still) ∙ none);
+        still = λ k after. g.others k (λ same. omega (arith, same, after)) ∙ r.still k (omega (arith, after));
         attended = λ on. absurd (let never = sym is ∙ on in cc);
       }
 
@@ -152,27 +179,37 @@ module _ {P H : Type 0} (did : P → Step → P → Type 0) (answers : Replying 
 
 module _ {P H : Type 0} (did : P → Step → P → Type 0) (answers : Replying H) (over : H → Bool) where
   -- the places in front were read from
-  pub record HeardTo (count place : ℕ) (peers : P) (handler : H) (links : List Link) (start : P) (first : H) (earlier : List Step) : Type 0 where
+  pub record HeardTo (count place : ℕ) (peers : P) (handler : H) (links : List Link) (has_read : List Bool) (start : P) (first : H) (earlier : List Step) : Type 0 where
     pub later : List Step
     pub runs : Runs did answers over count start first later peers handler
     pub holds : AllHold later links
     pub comings_are : comings later ≡ comings earlier
     pub looks_are : looks later ≡ looks earlier
     pub fresh : (k : ℕ) → (talk k later).replies ≡ 0
+    pub moved : HaveMoved later has_read
 
-  abbrev pub HearsTo : ℕ → P → P → H → List Link → List Link → Type 0
-  HearsTo place peers₀ peers handler links₀ links =
+  abbrev pub HearsTo : ℕ → P → P → H → List Link → List Link → List Bool → Type 0
+  HearsTo place peers₀ peers handler links₀ links has_read =
       (count : ℕ) (start : P) (first : H) (earlier : List Step) → Runs did answers over count start first earlier peers₀ handler → AllHold earlier links₀
-      → ((k : ℕ) → (talk k earlier).replies ≡ 0) → HeardTo count place peers handler links start first earlier
+      → ((k : ℕ) → (talk k earlier).replies ≡ 0) → HeardTo count place peers handler links has_read start first earlier
 
   -- none was yet
-  pub hears_begin : (peers : P) (handler : H) (links : List Link) → HearsTo 0 peers peers handler links links
-  hears_begin peers handler links count start first earlier runs all fresh = record { later = earlier; runs = runs; holds = all; comings_are = refl; looks_are = refl; fresh = fresh }
+  pub hears_begin : (peers : P) (handler : H) (links : List Link) (has_read : List Bool) → ((k : ℕ) → get_or has_read k false ≡ false) → HearsTo 0 peers peers handler links links has_read
+  hears_begin peers handler links has_read none count start first earlier runs all fresh = record {
+    later = earlier;
+    runs = runs;
+    holds = all;
+    comings_are = refl;
+    looks_are = refl;
+    fresh = fresh;
+    moved = λ k is. absurd (let no = sym (none k) ∙ is in cc);
+  }
 
   -- one place more was
-  pub hears_next : (place : ℕ) (peers₀ peers peers₂ : P) (handler : H) (links₀ links : List Link) (link₂ : Link) (moved : Bool) (d : Link) → HearsTo place peers₀ peers handler links₀ links
-      → place < 64 → length links ≡ 64 → TakesIn did place peers peers₂ (get_or links place d) link₂ moved → HearsTo (place + 1) peers₀ peers₂ handler links₀ (set links place link₂)
-  hears_next place peers₀ peers peers₂ handler links₀ links link₂ moved d far below size takes count start first earlier runs all fresh =
+  pub hears_next : (place : ℕ) (peers₀ peers peers₂ : P) (handler : H) (links₀ links : List Link) (link₂ : Link) (has_read : List Bool) (moved : Bool) (d : Link) → HearsTo place peers₀ peers handler links₀ links has_read
+      → place < 64 → length links ≡ 64 → length has_read ≡ 64 → TakesIn did place peers peers₂ (get_or links place d) link₂ moved
+      → HearsTo (place + 1) peers₀ peers₂ handler links₀ (set links place link₂) (set has_read place moved)
+  hears_next place peers₀ peers peers₂ handler links₀ links link₂ has_read moved d far below size flags takes count start first earlier runs all fresh =
       let r = far count start first earlier runs all fresh in
       let g = goes_takes did answers over count place below start first r.later peers handler r.runs peers₂ (get_or links place d) link₂ moved takes (r.holds place d (omega (arith, below, size))) in
       record {
@@ -185,17 +222,33 @@ module _ {P H : Type 0} (did : P → Step → P → Type 0) (answers : Replying 
           | inl is ↦ subst (λ j. (talk j g.later).replies ≡ 0) is (g.also.1 ∙ r.fresh place)
           | inr unlike ↦ ap (λ t. t.replies) (g.others k unlike) ∙ r.fresh k
         ];
+        moved = λ k is. elim (same_or place k) [
+          | inl same ↦ subst (λ j. (talk j g.later).is_moved ≡ true) same
+              (g.has_moved (sym (get_or-set_same has_read place moved false (omega (arith, below, flags))) ∙ ap (λ j. get_or (set has_read place moved) j false) same ∙ is))
+          | inr unlike ↦ ap (λ t. t.is_moved) (g.others k unlike) ∙ r.moved k (sym (get_or-set_other has_read place k moved false (λ e. unlike (sym e))) ∙ is)
+        ];
       }
 
-  -- and then what may be answered together was
-  pub readies : (place : ℕ) (peers₀ peers : P) (handler handler₂ : H) (links₀ links links₂ : List Link) → over handler ≡ false → HearsTo place peers₀ peers handler links₀ links → length links ≡ 64
-      → Joins answers.together over handler handler₂ links links₂ → Readies did answers over peers₀ peers handler handler₂ links₀ links₂
-  readies place peers₀ peers handler handler₂ links₀ links links₂ on far size joins count start first earlier runs all fresh =
+  -- what came is held back
+  pub readies_later : (place : ℕ) (peers₀ peers : P) (handler : H) (links₀ links : List Link) (has_read : List Bool) → HearsTo place peers₀ peers handler links₀ links has_read → length links ≡ 64
+      → Readies did answers over peers₀ peers handler handler links₀ links has_read
+  readies_later place peers₀ peers handler links₀ links has_read far size count start first earlier runs all fresh =
+      let r = far count start first earlier runs all fresh in
+      (size, record { later = r.later; runs = r.runs; holds = r.holds; comings_are = r.comings_are; looks_are = r.looks_are; fresh = λ k d within none. r.fresh k; moved = r.moved })
+
+  -- or what may be answered together was
+  pub readies : (place : ℕ) (peers₀ peers : P) (handler handler₂ : H) (links₀ links links₂ : List Link) (has_read none : List Bool) → over handler ≡ false
+      → HearsTo place peers₀ peers handler links₀ links has_read → length links ≡ 64 → ((k : ℕ) → get_or none k false ≡ false)
+      → Joins answers.together over handler handler₂ links links₂ → Readies did answers over peers₀ peers handler handler₂ links₀ links₂ none
+  readies place peers₀ peers handler handler₂ links₀ links links₂ has_read none on far size off joins count start first earlier runs all fresh =
       let r = far count start first earlier runs all fresh in
       by r joins
     where
-      by : (r : HeardTo count place peers handler links start first earlier) → Joins answers.together over handler handler₂ links links₂
-          → (length links₂ ≡ 64) × GoesReady did answers over count peers handler₂ links₂ start first earlier
+      moved : (later : List Step) → HaveMoved later none
+      moved later k is = absurd (let no = sym (off k) ∙ is in cc)
+
+      by : (r : HeardTo count place peers handler links has_read start first earlier) → Joins answers.together over handler handler₂ links links₂
+          → (length links₂ ≡ 64) × GoesReady did answers over count peers handler₂ links₂ none start first earlier
       by r (inr (same, still)) = (
         ap (λ (ls : List Link). length ls) still ∙ size,
         record {
@@ -205,11 +258,14 @@ module _ {P H : Type 0} (did : P → Step → P → Type 0) (answers : Replying 
           comings_are = r.comings_are;
           looks_are = r.looks_are;
           fresh = λ k d within none. r.fresh k;
+          moved = moved r.later;
         },
       )
       by r (inl joined) =
-          let g = goes_joined did answers over count start first r.later peers handler handler₂ links links₂ size r.runs r.holds on r.fresh joined in
-          (joined.gives.as_many ∙ size, record { later = g.later; runs = g.runs; holds = g.holds; comings_are = g.comings_are ∙ r.comings_are; looks_are = g.looks_are ∙ r.looks_are; fresh = g.fresh })
+          let g = goes_joined did answers over count start first r.later peers handler handler₂ links links₂ size r.runs r.holds on r.fresh joined none moved in (
+            joined.gives.as_many ∙ size,
+            record { later = g.later; runs = g.runs; holds = g.holds; comings_are = g.comings_are ∙ r.comings_are; looks_are = g.looks_are ∙ r.looks_are; fresh = g.fresh; moved = g.moved },
+          )
 
 -- one of them
 pub some_link : (links : List Link) → 0 < length links → Link
@@ -269,15 +325,15 @@ module _ {P H : Type 0} (did : P → Step → P → Type 0) (answers : Replying 
 
   module _ (now : P) (handler₁ : H) (links : List Link) (left : ℕ) (is_busy : Bool) (rounds : ℕ) (s : Serving now handler₁ links left is_busy rounds) where
     -- a look and a round more
-    pub serving_next : (then ready next : P) (handler₂ handler₃ : H) (links₂ links₃ : List Link) (left₂ : ℕ) (busy : Bool) → over handler₁ ≡ false → did now (Looked is_busy (nat_lt 0 left)) then
-        → Readies did answers over then ready handler₁ handler₂ links links₂ → Rounds did answers over ready next handler₂ handler₃ links₂ links₃ left left₂ busy
+    pub serving_next : (then ready next : P) (handler₂ handler₃ : H) (links₂ links₃ : List Link) (left₂ : ℕ) (held_back : List Bool) (busy : Bool) → over handler₁ ≡ false → did now (Looked is_busy (nat_lt 0 left)) then
+        → Readies did answers over then ready handler₁ handler₂ links links₂ held_back → Rounds did answers over ready next handler₂ handler₃ links₂ links₃ left left₂ held_back busy
         → Serving next handler₃ links₃ left₂ busy (rounds + 1)
-    serving_next then ready next handler₂ handler₃ links₂ links₃ left₂ busy on looks_now readies round =
+    serving_next then ready next handler₂ handler₃ links₂ links₃ left₂ held_back busy on looks_now readies round =
         let it = (readies count peers handler (Looked is_busy (nat_lt 0 left) ∷ s.history)
         (record { happens = (now, s.runs.happens, looks_now); answered = s.runs.answered; right = (s.runs.right, sym (may_come_is (comings s.history) left count s.left_is), s.attended on) })
         (λ k d below. holds_looked (talk k s.history) (get_or links k d) (s.holds k d below))
         (λ k. refl)).1 in
-        let r : GoesRound did answers over count next handler₃ links₃ left left₂ busy peers handler it.later = round count peers handler it.later it.runs it.holds it.fresh in
+        let r : GoesRound did answers over count next handler₃ links₃ left left₂ busy peers handler it.later = round count peers handler it.later it.runs it.holds it.fresh it.moved in
         record {
           history = r.later;
           runs = r.runs;

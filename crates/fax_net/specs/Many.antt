@@ -46,6 +46,10 @@ AllHold history links = (k : ℕ) (d : Link) → k < length links → Holds (tal
 abbrev pub AreFresh : List Step → List Link → Type 0
 AreFresh history links = (k : ℕ) (d : Link) → k < length links → is_none (get_or links k d).pending ≡ true → (talk k history).replies ≡ 0
 
+-- something moved since the last look at each of these places
+abbrev pub HaveMoved : List Step → List Bool → Type 0
+HaveMoved history places = (k : ℕ) → get_or places k false ≡ true → (talk k history).is_moved ≡ true
+
 module _ {P H : Type 0} (did : P → Step → P → Type 0) (answers : Replying H) (over : H → Bool) (count : ℕ) where
   -- each place had its turn, unless who answers is over
   pub record GoesRound (peers : P) (handler : H) (links : List Link) (left left₂ : ℕ) (is_busy : Bool) (start : P) (first : H) (earlier : List Step) : Type 0 where
@@ -56,25 +60,26 @@ module _ {P H : Type 0} (did : P → Step → P → Type 0) (answers : Replying 
     pub looks_are : looks later ≡ looks earlier
     pub attended : over handler ≡ false → (k : ℕ) → k < 64 → IsAttended is_busy (nat_lt 0 left₂) (talk k later)
 
-  -- what is there was read, and what may be answered together was
-  pub record GoesReady (peers : P) (handler : H) (links : List Link) (start : P) (first : H) (earlier : List Step) : Type 0 where
+  -- what is there was read, and what may be answered together was, unless something that came is held back
+  pub record GoesReady (peers : P) (handler : H) (links : List Link) (held_back : List Bool) (start : P) (first : H) (earlier : List Step) : Type 0 where
     pub later : List Step
     pub runs : Runs did answers over count start first later peers handler
     pub holds : AllHold later links
     pub comings_are : comings later ≡ comings earlier
     pub looks_are : looks later ≡ looks earlier
     pub fresh : AreFresh later links
+    pub moved : HaveMoved later held_back
 
 module _ {P H : Type 0} (did : P → Step → P → Type 0) (answers : Replying H) (over : H → Bool) where
-  abbrev pub Readies : P → P → H → H → List Link → List Link → Type 0
-  Readies peers peers₂ handler handler₂ links links₂ =
+  abbrev pub Readies : P → P → H → H → List Link → List Link → List Bool → Type 0
+  Readies peers peers₂ handler handler₂ links links₂ held_back =
       (count : ℕ) (start : P) (first : H) (earlier : List Step) → Runs did answers over count start first earlier peers handler → AllHold earlier links
-      → ((k : ℕ) → (talk k earlier).replies ≡ 0) → (length links₂ ≡ 64) × GoesReady did answers over count peers₂ handler₂ links₂ start first earlier
+      → ((k : ℕ) → (talk k earlier).replies ≡ 0) → (length links₂ ≡ 64) × GoesReady did answers over count peers₂ handler₂ links₂ held_back start first earlier
 
-  abbrev pub Rounds : P → P → H → H → List Link → List Link → ℕ → ℕ → Bool → Type 0
-  Rounds peers peers₂ handler handler₂ links links₂ left left₂ is_busy =
+  abbrev pub Rounds : P → P → H → H → List Link → List Link → ℕ → ℕ → List Bool → Bool → Type 0
+  Rounds peers peers₂ handler handler₂ links links₂ left left₂ held_back is_busy =
       (count : ℕ) (start : P) (first : H) (earlier : List Step) → Runs did answers over count start first earlier peers handler → AllHold earlier links
-      → AreFresh earlier links → GoesRound did answers over count peers₂ handler₂ links₂ left left₂ is_busy start first earlier
+      → AreFresh earlier links → HaveMoved earlier held_back → GoesRound did answers over count peers₂ handler₂ links₂ left left₂ is_busy start first earlier
 
   -- So many connections came and were served to their end, unless who answers is over, or the server has looked at them 2 ^ 64 - 1 times.
   pub record ServesMany (count : ℕ) (peers : P) (handler : H) (peers₂ : P) (handler₂ : H) : Type 0 where

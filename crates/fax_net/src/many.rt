@@ -43,44 +43,74 @@ pub(crate) fn serve_many<P: Peers, H: Handler>(
             return;
         }
         peers.look(is_busy, left > 0);
-        answer_ready(alloc, peers, links, handler, &mut piece);
-        is_busy = serve_round(peers, links, &mut left, handler, &mut piece);
+        let held_back = answer_ready(alloc, peers, links, handler, &mut piece);
+        is_busy = serve_round(peers, links, &mut left, handler, &mut piece, &held_back);
     }
 }
 
-/// Reads once where a message is awaited, and has the POSTs that are there answered together.
+/// Reads once where a message is awaited, and has the POSTs that are there answered together, unless one more look may find
+/// more of them. Returns where something was read that waits for that look.
 fn answer_ready<P: Peers, H: Handler>(
     alloc: Global,
     peers: &mut P,
     links: &mut [Link],
     handler: &mut H,
     piece: &mut [u8],
-)
+) -> [bool; PLACES]
     requires on { H.over handler.old ≡ false }
     requires places { length links.old ≡ PLACES }
-    ensures { Readies P.did (replying H.answers H.together) H.over peers.old peers.new handler.old handler.new links.old links.new }
+    ensures { Readies P.did (replying H.answers H.together) H.over peers.old peers.new handler.old handler.new links.old links.new result }
 {
+    let mut has_read = [false; PLACES];
     for place in 0..links.len() {
-        take_in(peers, place, &mut links[place], piece);
+        has_read[place] = take_in(peers, place, &mut links[place], piece);
+    }
+    if may_gain(links, &has_read) {
+        return has_read;
     }
     answer_posts(alloc, links, handler);
+    [false; PLACES]
 }
 
-/// Gives each place its turn; once the handler is over, only what is owed is written. Gives whether more may be to do at once.
+/// Whether one more look may find more messages for those that are there to be answered with: some came just now, each that
+/// is there did, and another connection may say more. So no message waits for two looks.
+fn may_gain(links: &[Link], has_read: &[bool]) -> bool
+    requires { length has_read.now ≡ length links.now }
+{
+    let mut has_some = false;
+    let mut has_more = false;
+    for place in 0..links.len() {
+        if links[place].is_due() && !has_read[place] {
+            return false;
+        }
+        has_some |= has_read[place];
+        has_more |= links[place].awaits();
+    }
+    has_some && has_more
+}
+
+/// Gives each place its turn, but for those that are held back until the next look; once the handler is over, only what is owed
+/// is written. Returns whether more may be to do at once.
 fn serve_round<P: Peers, H: Handler>(
     peers: &mut P,
     links: &mut [Link],
     left: &mut u64,
     handler: &mut H,
     piece: &mut [u8],
+    held_back: &[bool],
 ) -> bool
-    requires { length links.old ≡ PLACES }
-    ensures { Rounds P.did (replying H.answers H.together) H.over peers.old peers.new handler.old handler.new links.old links.new left.old left.new result }
+    requires places { length links.old ≡ PLACES }
+    requires as_many { length held_back.now ≡ PLACES }
+    ensures { Rounds P.did (replying H.answers H.together) H.over peers.old peers.new handler.old handler.new links.old links.new left.old left.new held_back.now result }
 {
     let mut is_busy = false;
     for place in 0..links.len() {
         if handler.is_over() {
             write(peers, place, &mut links[place]);
+            continue;
+        }
+        if held_back[place] {
+            is_busy = true;
             continue;
         }
         let is_full = is_full(links, place);

@@ -20,6 +20,8 @@ use Rattle.fax_tables.specs.Tables.{IsAtRest, TablesMean}
 use Rattle.fax_once.specs.Acceptance.{IsBy, MayBeKept, left_by}
 use Rattle.fax_once.specs.Handled.{Leaves}
 use Rattle.fax_once.specs.Stop.{AreMadeBy, StopsBy}
+use Rattle.fax_once.specs.Known.{HasBegun, Knows, LeadsTo}
+use Rattle.fax_once.specs.declared.known.Known.{Known}
 use Rattle.fax_once.specs.declared.acceptance.Answered.{Answered}
 use Rattle.fax_once.specs.declared.acceptance.Answered.TheVariants.{Unchanged, Accepted}
 
@@ -49,27 +51,28 @@ pub kept_by : (result : Result Answered Fault) (reply : Response) → IfOk resul
 kept_by (Ok x) reply gives = subst MayBeKept (sym gives.0) gives.1
 kept_by (Err e) reply gives = tt
 
-module _ (s : State) (failed : Bool) (m₀ m : Queue) (k₀ k : Ledger) where
-  -- the answer is by the verdict, and the work means where that leads
+module _ (known : Known) (s : State) (failed : Bool) (m₀ m : Queue) (k₀ k : Ledger) where
+  -- the answer is by the verdict, and the work leads where that does
   abbrev pub IsLeft : Answered → Verdict → Type 0
-  IsLeft x v = IsBy x v × Sound (left_by m k v).queue × IsUnderWay s failed m₀ k₀ (left_by m k v).queue (left_by m k v).kept
+  IsLeft x v = IsBy x v × Sound (left_by m k v).queue × LeadsTo known s failed m₀ k₀ (left_by m k v)
 
   -- a refusal leads nowhere
-  pub refused_by : (v : Verdict) (reply : Response) → Told reply ≡ v → Sound m → IsUnderWay s failed m₀ k₀ m k → IsLeft (Unchanged reply) v
-  refused_by v reply is sound under = subst (IsLeft (Unchanged reply)) is (refl, sound, under)
+  pub refused_by : (v : Verdict) (reply : Response) → Told reply ≡ v → Sound m → LeadsTo known s failed m₀ k₀ (record { queue = m; kept = k }) → IsLeft (Unchanged reply) v
+  refused_by v reply is sound there = subst (IsLeft (Unchanged reply)) is (refl, sound, there)
 
   -- what is accepted leads to what it makes
-  pub accepted_by : (v : Verdict) (reply : Response) (after : Queue) (kept : Ledger) → verdict.Accepted after kept reply ≡ v → Sound after → IsUnderWay s failed m₀ k₀ after kept → IsLeft (Accepted reply) v
-  accepted_by v reply after kept is sound under = subst (IsLeft (Accepted reply)) is ((after, kept, refl), sound, under)
+  pub accepted_by : (v : Verdict) (reply : Response) (after : Queue) (kept : Ledger) → verdict.Accepted after kept reply ≡ v → Sound after
+      → LeadsTo known s failed m₀ k₀ (record { queue = after; kept = kept }) → IsLeft (Accepted reply) v
+  accepted_by v reply after kept is sound there = subst (IsLeft (Accepted reply)) is ((after, kept, refl), sound, there)
 
 -- what an acceptance within a work gives is by its verdict
-pub answered_by : (result : Result Answered Fault) (s : State) (failed : Bool) (m₀ m : Queue) (k₀ k : Ledger) (v : Verdict) (reply : Response) (after : Queue) (kept : Ledger) (P : Type 0)
-    → verdict.Accepted after kept reply ≡ v → IfOk result (λ x. (x ≡ Accepted reply) × P) → Sound after
-    → MatchResult result (λ _. Works s failed m₀ k₀ after kept) (λ _. Works s failed m₀ k₀ m k) → Serves s → OnlyNoAnswer result
-    → MatchResult result (λ x. IsLeft s failed m₀ m k₀ k x v) (λ fault. (fault ≡ NoAnswer) × IsUnderWay s failed m₀ k₀ m k)
-answered_by (Ok x) s failed m₀ m k₀ k v reply after kept P is gives sound works serves why =
-    subst (λ (y : Answered). IsLeft s failed m₀ m k₀ k y v) (sym gives.0) (accepted_by s failed m₀ m k₀ k v reply after kept is sound (works serves))
-answered_by (Err fault) s failed m₀ m k₀ k v reply after kept P is gives sound works serves why = (why, works serves)
+pub answered_by : (result : Result Answered Fault) (known : Known) (s : State) (failed : Bool) (m₀ tables written m : Queue) (k₀ k : Ledger) (v : Verdict) (reply : Response) (after : Queue) (kept : Ledger) (P : Type 0)
+    → verdict.Accepted after kept reply ≡ v → IfOk result (λ x. (x ≡ Accepted reply) × P) → Sound after → Knows known written after
+    → MatchResult result (λ _. Works s failed m₀ k₀ written kept) (λ _. Works s failed m₀ k₀ tables k) → Serves s → OnlyNoAnswer result
+    → MatchResult result (λ x. IsLeft known s failed m₀ m k₀ k x v) (λ fault. (fault ≡ NoAnswer) × HasBegun s failed m₀ k₀)
+answered_by (Ok x) known s failed m₀ tables written m k₀ k v reply after kept P is gives sound knows works serves why =
+    subst (λ (y : Answered). IsLeft known s failed m₀ m k₀ k y v) (sym gives.0) (accepted_by known s failed m₀ m k₀ k v reply after kept is sound (written, knows, works serves))
+answered_by (Err fault) known s failed m₀ tables written m k₀ k v reply after kept P is gives sound knows works serves why = (why, (tables, k, works serves))
 
 -- no answer leaves what was there
 pub no_answer : {A U : Type 0} (r : Result A Fault) (fault : Fault) (P : A → Type 0) → IsErrAnd r (λ e. e ≡ fault) → fault ≡ NoAnswer → U → MatchResult r P (λ e. (e ≡ NoAnswer) × U)
@@ -77,24 +80,24 @@ no_answer (Ok x) fault P is why under = absurd is
 no_answer (Err e) fault P is why under = (is ∙ why, under)
 
 -- what a refusal leaves
-pub refused_leaves : (s new : State) (failed : Bool) (m : Queue) (k : Ledger) (v : Verdict) (reply : Response) → IsLeft s failed m m k k (Unchanged reply) v → Means new m k → Leaves m k reply new v
-refused_leaves s new failed m k v reply left means = subst (Leaves m k reply new) (sym left.0) (refl, means)
+pub refused_leaves : (new : State) (m : Queue) (k : Ledger) (v : Verdict) (reply : Response) → IsBy (Unchanged reply) v → Means new m k → Leaves m k reply new v
+refused_leaves new m k v reply is means = subst (Leaves m k reply new) (sym is) (refl, means)
 
 -- what an acceptance leaves, once it is committed
-pub accepted_leaves : (s new : State) (failed : Bool) (m : Queue) (k : Ledger) (v : Verdict) (reply : Response) → IsLeft s failed m m k k (Accepted reply) v → Serves new
+pub accepted_leaves : (new : State) (m : Queue) (k : Ledger) (v : Verdict) (reply : Response) → IsBy (Accepted reply) v → Sound (left_by m k v).queue → Serves new
     → Means new (left_by m k v).queue (left_by m k v).kept → Leaves m k reply new v
-accepted_leaves s new failed m k v reply left serves means =
-    let is = left.0.2 in
+accepted_leaves new m k v reply by sound serves means =
+    let is = by.2 in
     subst (Leaves m k reply new) (sym is) (
       refl,
       serves,
       subst (λ (w : Verdict). IsAtRest new (left_by m k w).queue (left_by m k w).kept) is (means serves),
-      subst (λ (w : Verdict). Sound (left_by m k w).queue) is left.1,
+      subst (λ (w : Verdict). Sound (left_by m k w).queue) is sound,
     )
 
 -- a work whose commit was asked for, done or not: a crash leaves what one before could leave, or the rows of the verdict
 pub accepted_stops : (s0 s1 s2 s3 : State) (begun written : Bool) → Opens s0 s1 begun → (Serves s0 → HasTables s0) → Withholds s1 begun s2 written
-    → (m : Queue) (k : Ledger) (v : Verdict) (reply : Response) → (Serves s2 → IsLeft s2 written m m k k (Accepted reply) v)
+    → (m : Queue) (k : Ledger) (v : Verdict) (reply : Response) → (Serves s2 → IsBy (Accepted reply) v × IsUnderWay s2 written m k (left_by m k v).queue (left_by m k v).kept)
     → (HasCleanDisk s3 → HasCleanDisk s2) → (Serves s2 → Serves s0) → MayCommit s2 written s3 → StopsBy s0 s3 v
 accepted_stops s0 s1 s2 s3 begun written opens tables writes m k v reply left cleaner served commits found may =
     let wrote = writes (opens.0 tables) in
@@ -104,6 +107,6 @@ accepted_stops s0 s1 s2 s3 begun written opens tables writes m k v reply left cl
           (let serves : Serves s2 = record { clean = cleaner may.0; is_open = done.1.is_open } in
           let there = left serves in
           let is = there.0.2 in
-          let means = (there.2.goes_on done.0).means in
+          let means = (there.1.goes_on done.0).means in
           inr (served serves, subst (λ (w : Verdict). AreMadeBy w found) (sym is) (s2.now, sym done.2, subst (λ (w : Verdict). TablesMean s2.now (left_by m k w).queue (left_by m k w).kept) is means)))
     ]

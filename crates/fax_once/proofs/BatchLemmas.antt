@@ -16,7 +16,7 @@ use Rattle.fax_decide.specs.Fault.{OnlyNoAnswer, OrNoAnswer}
 use Rattle.fax_decide.specs.declared.fault.Fault.{Fault}
 use Rattle.fax_decide.specs.declared.fault.Fault.TheVariants.{NoAnswer}
 use Rattle.fax_store.specs.Store.{CommitsNothing, HasTables, LeavesAlone, MayMake, Means, Serves}
-use Rattle.fax_store.specs.Work.{IsUnderWay, MayCommit, Opens, Withholds}
+use Rattle.fax_store.specs.Work.{MayCommit, Opens, Withholds}
 use Rattle.fax_run.proofs.FedLemmas.{accepted_more, are_taken, heard_more, lawful_reading}
 use Rattle.fax_run.proofs.OnceLemmas.{sound_after}
 use Rattle.fax_run.proofs.RunLemmas.{runs_thread}
@@ -26,11 +26,14 @@ use Rattle.fax_run.specs.Run.{IsRun, Start, end_of, taken}
 use Rattle.fax_run.specs.Sessions.{AreHeard}
 use Rattle.fax_run.specs.Verdict.{Verdict, IsVerdict, reply_of}
 use Rattle.fax_run.specs.declared.arrival.Arrival.{Arrival}
+use Rattle.fax_once.proofs.AnsweringLemmas.{IsLeft}
 use Rattle.fax_once.proofs.HandledLemmas.{open_stops}
-use Rattle.fax_once.specs.Acceptance.{IsBy, left_by}
-use Rattle.fax_once.specs.Batch.{AreMadeByAll, IsGivenBy, RunsWithin, all_refused, is_accepted, replies_to, reply_in}
-use Rattle.fax_once.specs.Known.{Holds}
-use Rattle.fax_once.specs.Looking.{IsTold}
+use Rattle.fax_once.specs.Acceptance.{IsBy, MeansFor, left_by}
+use Rattle.fax_once.specs.Batch.{AreMadeByAll, IsGivenBy, MeansEnd, RunsWithin, all_refused, is_accepted, replies_to, reply_in}
+use Rattle.fax_once.specs.Known.{HasBegun, LeadsTo}
+use Rattle.fax_once.specs.Looking.{IsTold, SeesIn, Submits}
+use Rattle.fax_core.specs.declared.ask.Ask.{Ask as Step}
+use Rattle.fax_decide.specs.Read.{IsSubmission}
 use Rattle.fax_once.specs.declared.known.Known.{Known}
 use Rattle.fax_once.specs.Ran.{HasRun}
 use Rattle.fax_once.specs.Stop.{AtEnd, Before, Besides, IsLeftBehind, StopsIn}
@@ -49,6 +52,11 @@ pub opens_behind : {A E : Type 0} (result : Result A E) (P Q R S : Type 0) → (
 opens_behind (Ok x) P Q R S first opens = λ p r. opens (first p) r
 opens_behind (Err e) P Q R S first opens = tt
 
+-- the tables mean the queue for what is asked for
+pub means_for : (a : Arrival) (tables m : Queue) (ask : Step) → SeesIn a tables m → (Submits a → IsSubmission ask) → MeansFor ask tables m
+means_for a tables m ask (inl same) submits = inl same
+means_for a tables m ask (inr it) submits = inr (submits it)
+
 -- what is told is given
 pub told_given : (reply : Response) (s : State) (v : Verdict) → IsTold reply s v → IsGivenBy (Unchanged reply) v
 told_given reply s v (inl is) = inl is
@@ -59,14 +67,12 @@ by_given : (x : Answered) (v : Verdict) → IsBy x v → IsGivenBy x v
 by_given (Unchanged reply) v is = inl is
 by_given (Accepted reply) v is = is
 
-pub new_given : (result : Result Answered Fault) (s : Settings) (a : Arrival) (store : State) (failed : Bool) (m₀ m : Queue) (k₀ k : Ledger) (v : Verdict) (known : Known) → IsVerdict s a m k v
-    → OnOk result (Holds known (left_by m k v).queue)
+pub new_given : (result : Result Answered Fault) (s : Settings) (a : Arrival) (known : Known) (store : State) (failed : Bool) (m₀ m : Queue) (k₀ k : Ledger) (v : Verdict) → IsVerdict s a m k v
+    → MatchResult result (λ x. IsLeft known store failed m₀ m k₀ k x v) (λ fault. (fault ≡ NoAnswer) × HasBegun store failed m₀ k₀)
     → MatchResult result
-    (λ x. IsBy x v × Sound (left_by m k v).queue × IsUnderWay store failed m₀ k₀ (left_by m k v).queue (left_by m k v).kept) (λ fault. (fault ≡ NoAnswer) × IsUnderWay store failed m₀ k₀ m k)
-    → MatchResult result
-    (λ x. (w : Verdict) × IsVerdict s a m k w × IsGivenBy x w × Holds known (left_by m k w).queue × IsUnderWay store failed m₀ k₀ (left_by m k w).queue (left_by m k w).kept) (λ fault. (fault ≡ NoAnswer) × IsUnderWay store failed m₀ k₀ m k)
-new_given (Ok x) s a store failed m₀ m k₀ k v known is knows (by, sound, under) = (v, is, by_given x v by, knows, under)
-new_given (Err fault) s a store failed m₀ m k₀ k v known is knows none = none
+    (λ x. (w : Verdict) × IsVerdict s a m k w × IsGivenBy x w × LeadsTo known store failed m₀ k₀ (left_by m k w)) (λ fault. (fault ≡ NoAnswer) × HasBegun store failed m₀ k₀)
+new_given (Ok x) s a known store failed m₀ m k₀ k v is (by, sound, there) = (v, is, by_given x v by, there)
+new_given (Err fault) s a known store failed m₀ m k₀ k v is none = none
 
 -- the reply is that of the verdict
 given_reply : (x : Answered) (v : Verdict) → IsGivenBy x v → reply_in x ≡ reply_of v
@@ -92,10 +98,10 @@ neither true c is = absurd cc
 neither false c is = (refl, is)
 
 -- nothing has run at first
-abbrev pub runs_at_first : (s : Settings) (start : Start) (store : State) (failed : Bool) → IsUnderWay store failed start.queue start.kept start.queue start.kept → RunsWithin s start [] [] false store failed
-runs_at_first s start store failed under = record { heard = []; all = refl; answered = refl; accepted = tt; still = λ none. refl; under = under }
+abbrev pub runs_at_first : (s : Settings) (start : Start) → RunsWithin s start [] [] false
+runs_at_first s start = record { heard = []; all = refl; answered = refl; accepted = tt; still = λ none. refl }
 
-module _ (s : Settings) (start : Start) (arrivals : List Arrival) (replies : List Response) (b : Bool) (old : State) (was : Bool) (runs : RunsWithin s start arrivals replies b old was) where
+module _ (s : Settings) (start : Start) (arrivals : List Arrival) (replies : List Response) (b : Bool) (runs : RunsWithin s start arrivals replies b) where
   abbrev here : Start
   here = end_of s start runs.heard
 
@@ -103,27 +109,20 @@ module _ (s : Settings) (start : Start) (arrivals : List Arrival) (replies : Lis
   pub here_sound : Sound start.queue → Sound here.queue
   here_sound sound = sound_after start.queue (taken s start runs.heard) sound (are_taken start (taken s start runs.heard) runs.accepted)
 
-  -- a batch goes on by an arrival that is answered by its verdict
-  pub goes_within : (a : Arrival) (x : Answered) (new : State) (failed : Bool) (v : Verdict) → IsVerdict s a here.queue here.kept v → IsGivenBy x v
-      → IsUnderWay new failed start.queue start.kept (left_by here.queue here.kept v).queue (left_by here.queue here.kept v).kept
-      → RunsWithin s start (arrivals ++ a ∷ []) (replies ++ reply_in x ∷ []) (b || is_accepted x) new failed
-  goes_within a x new failed v (r, reads, is) given under =
-      let leads : end_of s start (r ∷ runs.heard) ≡ left_of here v = runs_thread s start runs.heard r ∙ ap (left_of here) (sym is) in
-      record {
-        heard = r ∷ runs.heard;
-        all = heard_last arrivals [] runs.heard a r runs.all reads;
-        answered = heard_more s start [] arrivals replies runs.heard a (reply_in x) r runs.answered reads (given_reply x v given ∙ ap reply_of is);
-        accepted = accepted_more s start (taken s start runs.heard) r (lawful_reading a r reads) runs.accepted;
-        still = λ none. let parts = neither b (is_accepted x) none in leads ∙ given_still here.queue here.kept x v given parts.1 ∙ runs.still parts.0;
-        under = subst (λ (e : Start). IsUnderWay new failed start.queue start.kept e.queue e.kept) (sym leads) under;
-      }
-
-  -- and leads where the verdict leads
-  pub goes_end : (a : Arrival) (x : Answered) (new : State) (failed : Bool) (v : Verdict) (is : IsVerdict s a here.queue here.kept v) (given : IsGivenBy x v)
-      (under : IsUnderWay new failed start.queue start.kept (left_by here.queue here.kept v).queue (left_by here.queue here.kept v).kept)
-      → end_of s start (goes_within a x new failed v is given under).heard ≡ left_by here.queue here.kept v
-  unfolding goes_within
-  goes_end a x new failed v (r, reads, is) given under = runs_thread s start runs.heard r ∙ ap (left_of here) (sym is)
+  -- a batch goes on by an arrival that is answered by its verdict, and leads where that leads
+  pub goes_within : (a : Arrival) (x : Answered) (v : Verdict) → IsVerdict s a here.queue here.kept v → IsGivenBy x v
+      → (on : RunsWithin s start (arrivals ++ a ∷ []) (replies ++ reply_in x ∷ []) (b || is_accepted x)) × (end_of s start on.heard ≡ left_by here.queue here.kept v)
+  goes_within a x v (r, reads, is) given =
+      let leads : end_of s start (r ∷ runs.heard) ≡ left_of here v = runs_thread s start runs.heard r ∙ ap (left_of here) (sym is) in (
+        record {
+          heard = r ∷ runs.heard;
+          all = heard_last arrivals [] runs.heard a r runs.all reads;
+          answered = heard_more s start [] arrivals replies runs.heard a (reply_in x) r runs.answered reads (given_reply x v given ∙ ap reply_of is);
+          accepted = accepted_more s start (taken s start runs.heard) r (lawful_reading a r reads) runs.accepted;
+          still = λ none. let parts = neither b (is_accepted x) none in leads ∙ given_still here.queue here.kept x v given parts.1 ∙ runs.still parts.0;
+        },
+        leads,
+      )
 
   -- ---- its end
 
@@ -143,13 +142,13 @@ module _ (s : Settings) (start : Start) (arrivals : List Arrival) (replies : Lis
   )
 
   -- a crash after a commit was asked for leaves what one before could leave, or the rows of all of it
-  pub asked_to_commit : (s0 s1 s3 : State) (begun : Bool) → Opens s0 s1 begun → (Serves s0 → HasTables s0) → Withholds s1 begun old was → MayCommit old was s3
+  pub asked_to_commit : (s0 s1 old s3 : State) (begun was : Bool) → MeansEnd s start runs.heard old was → Opens s0 s1 begun → (Serves s0 → HasTables s0) → Withholds s1 begun old was → MayCommit old was s3
       → MayMake s0 s3 (AreMadeByAll s start arrivals)
-  asked_to_commit s0 s1 s3 begun opens tables writes commits found may =
+  asked_to_commit s0 s1 old s3 begun was under opens tables writes commits found may =
       let wrote = writes (opens.0 tables) in
       elim (commits wrote.0 found may) [
         | inl before ↦ inl (opens.1 found (wrote.1 found before))
-        | inr done ↦ inr (runs.heard, runs.all, (old.now, sym done.2, (runs.under.goes_on done.0).means))
+        | inr done ↦ inr (runs.heard, runs.all, (old.now, sym done.2, (under.goes_on done.0).means))
       ]
 
 -- ---- one that couldn't be committed

@@ -1,6 +1,6 @@
 -- Why a request gets no answer.
 use Rattle.std.proofs.Common.{◌≡◌, inl, inr, ℕ, ◌==◌, ◌&&◌, Bool, true, false, List, [], ◌∷◌, Option, Some, None, Ok, Err, refl, sym, ap, subst, ◌∙◌, if◌then◌else◌}
-use Rattle.std.specs.Prelude.{MatchOption, Result, IsErrAnd}
+use Rattle.std.specs.Prelude.{MatchOption, MatchResult, Result, IsErrAnd}
 use Rattle.std.specs.Str.{bytes_eq}
 use Rattle.std.proofs.lemmas.Bool.{eq-eqb}
 use Rattle.std.proofs.lemmas.Slice.Eq.{bytes_eq-Decides}
@@ -39,6 +39,7 @@ use Rattle.fax_decide.specs.declared.effect.Effect.{Effect}
 use Rattle.fax_decide.proofs.FreeLemmas.{keys_free}
 use Rattle.fax_decide.specs.Fault.{OnlyNoAnswer, fault_of}
 use Rattle.fax_decide.specs.declared.fault.Fault.{Fault}
+use Rattle.fax_decide.specs.declared.fault.Fault.TheVariants.{NoAnswer}
 use Rattle.fax_once.specs.Sender.{IsSender}
 use Rattle.fax_run.specs.Arrival.{digits_of}
 use Rattle.fax_run.specs.declared.arrival.Arrival.{Arrival}
@@ -123,3 +124,9 @@ taken_writable s m t ask effect reply sound lawful by =
 pub gave_out : {A : Type 0} (r : Result A Fault) (fault : StoreFault) → IsErrAnd r (λ e. e ≡ fault_of fault) → fault ≡ Unavailable → OnlyNoAnswer r
 gave_out (Ok x) fault is why = tt
 gave_out (Err e) fault is why = is ∙ ap fault_of why
+
+-- with what is left then
+pub gave_out_none : {A : Type 0} (r : Result A Fault) (fault : StoreFault) → IsErrAnd r (λ e. e ≡ fault_of fault) → fault ≡ Unavailable → {U : Type 0} (P : A → Type 0) → U
+    → MatchResult r P (λ e. (e ≡ NoAnswer) × U)
+gave_out_none (Ok x) fault is why P left = absurd is
+gave_out_none (Err e) fault is why P left = (is ∙ ap fault_of why, left)

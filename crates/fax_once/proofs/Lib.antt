@@ -14,3 +14,4 @@ mod AnsweringLemmas
 mod ShutLemmas
 mod RowsLeft
 mod KnownLemmas
+mod GivenLemmas

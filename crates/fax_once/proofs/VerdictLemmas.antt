@@ -2,7 +2,7 @@
 use Rattle.std.proofs.Common.{◌≡◌, ◌⊎◌, ◌<◌, ◌≤◌, inl, inr, ℕ, Bool, true, false, nat_lt, List, Option, Some, None, refl, sym, ap, subst, ◌∙◌, arith, if◌then◌else◌, not, [], ◌∷◌, filter}
 use Rattle.std.proofs.lemmas.Bool.{cases_Bool}
 use Rattle.std.proofs.lemmas.Bool.Decides.{nat_tests}
-use Rattle.fax_decide.specs.Read.{IsRead}
+use Rattle.fax_decide.specs.Read.{IsRead, IsSubmission}
 use Rattle.std.specs.Str.{bytes_eq}
 use Rattle.sqlite.specs.State.{State, HasCleanDisk}
 use Rattle.fax_job.specs.declared.refusal.Refusal.TheVariants.{FloorHigh, GivenUp, NumberReused}
@@ -23,11 +23,12 @@ use Rattle.fax_tables.specs.Kept.{Tells}
 use Rattle.fax_tables.specs.Tables.{IsAtRest}
 use Rattle.fax_store.specs.Store.{Means, Serves}
 use Rattle.fax_tables.specs.declared.replies.Kept.{Kept}
-use Rattle.fax_once.specs.Acceptance.{kept_after}
+use Rattle.fax_once.proofs.GivenLemmas.{given_as_told}
+use Rattle.fax_once.specs.Accepting.{kept_after}
 use Rattle.fax_once.specs.Sender.{IsSender}
 use Rattle.fax_run.specs.Arrival.{said_of}
 use Rattle.fax_decide.specs.Decision.{IsTaken, IsRefused as IsRefusedBy}
-use Rattle.fax_decide.specs.Effect.{accepted}
+use Rattle.fax_decide.specs.Effect.{accepted, given_in}
 use Rattle.fax_run.specs.Reading.{post_of}
 use Rattle.fax_run.specs.Verdict.{Verdict, Told, Repeated, Accepted, asked_above, asked_for, decided_new, denied, given_by, is_too_high, new_asked, raised_ask, repeated, stepped, taken_once, without}
 use Rattle.fax_once.specs.Handled.{Handles, Leaves}
@@ -147,6 +148,14 @@ kept_raised : (P : Ask → Type 0) (floor : ℕ) (ask : Ask) → ((upto : ℕ) �
 kept_raised P floor (GiveUp upto) any is = any (greater floor upto)
 kept_raised P floor other any is = is
 
+-- a submission stays as it is
+pub raised_submits : (floor number : ℕ) (ask raised : Ask) → ◌≡◌ {A = Option Ask} (Some raised) (if is_too_high number ask then None else Some (raised_ask floor ask)) → IsSubmission ask → IsSubmission raised
+raised_submits floor number ask raised is submits = rw (raised_by floor number ask raised is).1 (by ask submits)
+  where
+    by : (a : Ask) → IsSubmission a → IsSubmission (raised_ask floor a)
+    by (machine.Submission order) it = tt
+    by other it = absurd it
+
 -- what is raised is as lawful
 pub raised_lawful : (floor number : ℕ) (ask raised : Ask) → ◌≡◌ {A = Option Ask} (Some raised) (if is_too_high number ask then None else Some (raised_ask floor ask)) → IsLawfulStep ask → IsLawfulStep raised
 raised_lawful floor number ask raised is lawful = rw (raised_by floor number ask raised is).1 (kept_raised IsLawfulStep floor ask (λ upto. _) lawful)
@@ -169,11 +178,12 @@ refused_is s a m k number t ask reply now by =
     ap (λ (r : Response). Told r) by.replied ∙ ap (stepped (post_of a number ask) k) (sym (ap (stamped t (aged t m)) by.refused)) ∙ decided_is s a m k number t ask now
 
 -- what is taken is accepted
-pub accepted_is : (s : Settings) (a : Arrival) (m : Queue) (k : Ledger) (sender : Sender) (t : ℕ) (ask : Ask) (effect : Effect) (given : Option ℕ) (reply : Response)
-    → given ≡ given_by ask → IsSender a sender → t ≡ decided_at m.clock a.moment → IsTaken (act s (aged t m) t ask) m t effect reply
-    → Accepted (accepted t effect m) (kept_after sender (said_of a) reply given k) reply ≡ decided_new s m k (post_of a sender.number ask)
-accepted_is s a m k sender t ask effect given reply gives_so from now by =
-    let is : Accepted (accepted t effect m) (kept_after sender (said_of a) reply given k) reply ≡ stepped (post_of a sender.number ask) k (Taken (accepted t effect m) by.told) =
+pub accepted_is : (s : Settings) (a : Arrival) (m : Queue) (k : Ledger) (sender : Sender) (t : ℕ) (ask : Ask) (effect : Effect) (reply : Response)
+    → IsSender a sender → t ≡ decided_at m.clock a.moment → IsTaken (act s (aged t m) t ask) m t effect reply
+    → Accepted (accepted t effect m) (kept_after sender (said_of a) reply (given_in effect) k) reply ≡ decided_new s m k (post_of a sender.number ask)
+accepted_is s a m k sender t ask effect reply from now by =
+    let gives_so : given_in effect ≡ given_by ask = by.given ∙ given_as_told s m t ask _ by.told by.taken in
+    let is : Accepted (accepted t effect m) (kept_after sender (said_of a) reply (given_in effect) k) reply ≡ stepped (post_of a sender.number ask) k (Taken (accepted t effect m) by.told) =
     rw (from.client, gives_so, by.replied) refl in
     is ∙ ap (stepped (post_of a sender.number ask) k) (sym by.taken) ∙ decided_is s a m k sender.number t ask now
 

@@ -12,6 +12,8 @@ use Rattle.fax_core.specs.Reply.{NoKeys}
 use Rattle.fax_core.specs.Settings.{Settings}
 use Rattle.fax_core.specs.Sound.{Sound}
 use Rattle.fax_decide.specs.Fault.{OrNoAnswer}
+use Rattle.fax_tables.specs.declared.fault.StoreFault.{StoreFault}
+use Rattle.fax_tables.specs.declared.fault.StoreFault.TheVariants.{Unavailable as GaveOut}
 use Rattle.fax_decide.specs.declared.fault.Fault.{Fault}
 use Rattle.fax_decide.specs.declared.fault.Fault.TheVariants.{NoAnswer}
 use Rattle.fax_store.specs.Calls.{Follows, shown, within}
@@ -27,8 +29,8 @@ use Rattle.fax_run.specs.Verdict.{Verdict, IsVerdict, Told, Repeated}
 use Rattle.fax_run.specs.Verdict as verdict
 use Rattle.fax_run.specs.declared.arrival.Arrival.{Arrival}
 use Rattle.fax_once.specs.Acceptance.{left_by}
-use Rattle.fax_once.specs.Known.{Holds}
-use Rattle.fax_once.specs.Looking.{IsFound, IsFresh}
+use Rattle.fax_once.specs.Known.{HasBegun, Knows, LeadsTo}
+use Rattle.fax_once.specs.Looking.{IsFound, IsFresh, SeesIn}
 use Rattle.fax_once.specs.declared.known.Known.{Known}
 use Rattle.fax_once.specs.declared.acceptance.Answered.{Answered}
 use Rattle.fax_once.specs.declared.acceptance.Answered.TheVariants.{Unchanged, Accepted}
@@ -51,14 +53,17 @@ abbrev pub IsGivenBy : Answered → Verdict → Type 0
 IsGivenBy (Unchanged reply) v = (v ≡ Told reply) ⊎ (v ≡ Repeated reply)
 IsGivenBy (Accepted reply) v = (after : Queue) × (kept : Ledger) × (v ≡ verdict.Accepted after kept reply)
 
--- What a batch has done within its work: each arrival is heard, and answered by what was heard before, and the work means where that leads. Where nothing was accepted, it means what it did at first.
-pub record RunsWithin (s : Settings) (start : Start) (arrivals : List Arrival) (replies : List Response) (has_accepted : Bool) (store : State) (failed : Bool) : Type 0 where
+-- What a batch has done within its work: each arrival is heard, and answered by what was heard before. Where nothing was accepted, that leads nowhere.
+pub record RunsWithin (s : Settings) (start : Start) (arrivals : List Arrival) (replies : List Response) (has_accepted : Bool) : Type 0 where
   pub heard : List Reading
   pub all : AreHeard arrivals [] heard
   pub answered : IsRun s start [] arrivals replies heard
   pub accepted : AreAccepted start (taken s start heard)
   pub still : has_accepted ≡ false → end_of s start heard ≡ start
-  pub under : IsUnderWay store failed start.queue start.kept (end_of s start heard).queue (end_of s start heard).kept
+
+-- the work means where it leads
+abbrev pub MeansEnd : Settings → Start → List Reading → State → Bool → Type 0
+MeansEnd s start heard store failed = IsUnderWay store failed start.queue start.kept (end_of s start heard).queue (end_of s start heard).kept
 
 -- each arrival is answered 503
 abbrev pub all_refused : List Arrival → List Response
@@ -79,25 +84,32 @@ module _ {S : Type 0} (g : Ghosts S) (old new : Work S) where
   abbrev pub OpensWithin : {A : Type 0} → Result A Fault → Type 0
   OpensWithin result = OnOk result (IsActive (within g old) old.failed → HasCleanDisk (within g new) → Serves (within g new))
 
+  -- The clock and the next numbers are written where that was still to be done, unless the arrival submits a job.
+  pub record SettlesFor (result : Result Known StoreFault) (a : Arrival) (known : Known) : Type 0 where
+    pub leaves : Follows g old new
+    pub goes_on : OnOk result (old.failed ≡ false → new.failed ≡ false)
+    pub settled : (m₀ tables m : Queue) (k₀ k : Ledger) → Works (within g old) old.failed m₀ k₀ tables k → Knows known tables m
+        → MatchResult result (λ known₂. (now : Queue) × Works (within g new) new.failed m₀ k₀ now k × Knows known₂ now m × SeesIn a now m)
+        (λ fault. (fault ≡ GaveOut) × Works (within g new) new.failed m₀ k₀ m k)
+
   -- An arrival is looked up within a work, which goes on as it was, or can't be committed.
   pub record LooksWithin (result : Result Looked Fault) (s : Settings) (a : Arrival) : Type 0 where
     pub leaves : Follows g old new
     pub goes_on : OnOk result (new.failed ≡ false)
     pub opens : OpensWithin result
     pub fresh : IfOk result (IsFresh a (within g new))
-    pub found : (m₀ m : Queue) (k₀ k : Ledger) → Sound m → Works (within g old) old.failed m₀ k₀ m k → Serves (within g new)
+    pub found : (m₀ tables m : Queue) (k₀ k : Ledger) → Sound m → SeesIn a tables m → Works (within g old) old.failed m₀ k₀ tables k → Serves (within g new)
         → OrNoAnswer result (IsFound s a m k (within g new))
     pub keeps : (m₀ m : Queue) (k₀ k : Ledger) → Works (within g old) old.failed m₀ k₀ m k → Works (within g new) new.failed m₀ k₀ m k
 
-  -- An arrival is answered within a work by its verdict, and the work means where that leads. Or memory or the store gave no answer: then the work means what it did, unless it can't be committed.
+  -- An arrival is answered within a work by its verdict, and the work leads where that does. Or memory or the store gave no answer: then it isn't to be committed.
   pub record AnswersIn (result : Result Answered Fault) (s : Settings) (a : Arrival) (known known₂ : Known) : Type 0 where
     pub leaves : Follows g old new
     pub goes_on : OnOk result (new.failed ≡ false)
     pub opens : OpensWithin result
-    pub comes : (m₀ m : Queue) (k₀ k : Ledger) → Sound m → Works (within g old) old.failed m₀ k₀ m k → Holds known m → Serves (within g new)
-        → MatchResult result
-        (λ x. (v : Verdict) × IsVerdict s a m k v × IsGivenBy x v × Holds known₂ (left_by m k v).queue × IsUnderWay (within g new) new.failed m₀ k₀ (left_by m k v).queue (left_by m k v).kept)
-        (λ fault. (fault ≡ NoAnswer) × IsUnderWay (within g new) new.failed m₀ k₀ m k)
+    pub comes : (m₀ tables m : Queue) (k₀ k : Ledger) → Sound m → Works (within g old) old.failed m₀ k₀ tables k → Knows known tables m → Serves (within g new)
+        → MatchResult result (λ x. (v : Verdict) × IsVerdict s a m k v × IsGivenBy x v × LeadsTo known₂ (within g new) new.failed m₀ k₀ (left_by m k v))
+        (λ fault. (fault ≡ NoAnswer) × HasBegun (within g new) new.failed m₀ k₀)
 
   -- Arrivals are answered one after the other within a work that began at a sound queue.
   pub record AnswersEach (result : Result Bool Fault) (s : Settings) (arrivals : List Arrival) (replies : List Response) : Type 0 where
@@ -107,8 +119,9 @@ module _ {S : Type 0} (g : Ghosts S) (old new : Work S) where
     pub as_many : OnOk result (length replies ≡ length arrivals)
     pub ran : (m : Queue) (k : Ledger) → Sound m → Works (within g old) old.failed m k m k → Serves (within g new)
         → MatchResult result
-        (λ has_accepted. RunsWithin s (record { queue = m; kept = k }) arrivals replies has_accepted (within g new) new.failed)
-        (λ fault. (fault ≡ NoAnswer) × ((after : Queue) × (kept : Ledger) × IsUnderWay (within g new) new.failed m k after kept))
+        (λ has_accepted.
+        (runs : RunsWithin s (record { queue = m; kept = k }) arrivals replies has_accepted) × MeansEnd s (record { queue = m; kept = k }) runs.heard (within g new) new.failed)
+        (λ fault. (fault ≡ NoAnswer) × HasBegun (within g new) new.failed m k)
 
 -- A batch has ended: it has run, or it couldn't be committed. Then the store means what it did, and a crash leaves what one before could leave, or the rows of all of it.
 abbrev pub HasEnded : Settings → Start → List Arrival → State → State → Batch → Type 0

@@ -6,5 +6,6 @@ pub mod Ran
 pub mod Looking
 pub mod Queue
 pub mod Acceptance
+pub mod Accepting
 pub mod Batch
 pub mod Known

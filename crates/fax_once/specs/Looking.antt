@@ -1,12 +1,12 @@
 -- A look at the tables for an arrival, before anything is decided of it.
-use Rattle.std.specs.Prelude.{◌≡◌, ◌⊎◌, ⊤, ℕ, ◌<◌, ◌^◌, Result, IfOk, OnOk}
+use Rattle.std.specs.Prelude.{◌≡◌, ◌⊎◌, ⊤, ℕ, ◌<◌, ◌^◌, codes, Result, IfOk, OnOk}
 use Rattle.sqlite.specs.Effect.{Database}
 use Rattle.sqlite.specs.State.{State, HasCleanDisk}
 use Rattle.sqlite_trees.specs.declared.store.Store.{Ghosts}
 use Rattle.fax_ask.specs.Ask.{IsAsk, IsLawful}
 use Rattle.fax_ask.specs.Response.{Response}
 use Rattle.fax_ask.specs.declared.ask.Ask.{Ask}
-use Rattle.fax_ask.specs.declared.method.Method.TheVariants.{Get}
+use Rattle.fax_ask.specs.declared.method.Method.TheVariants.{Get, Post}
 use Rattle.fax_ask.specs.declared.view.View.{View}
 use Rattle.fax_core.specs.Clock.{decided_at}
 use Rattle.fax_core.specs.Ledger.{Ledger}
@@ -15,6 +15,7 @@ use Rattle.fax_core.specs.Settings.{Settings}
 use Rattle.fax_core.specs.Sound.{Sound}
 use Rattle.fax_core.specs.declared.ask.Ask.{Ask as Step}
 use Rattle.fax_decide.specs.Fault.{OnlyNoAnswer, OrNoAnswer}
+use Rattle.fax_decide.specs.Read.{IsSubmission}
 use Rattle.fax_decide.specs.declared.fault.Fault.{Fault}
 use Rattle.fax_schema.specs.Schema.{our_tables}
 use Rattle.fax_store.specs.Calls.{Looks, shown}
@@ -42,10 +43,18 @@ abbrev pub IsKnown : Looked → Type 0
 IsKnown (Known reply) = ⊤
 IsKnown (New new) = ⊥
 
+-- it posts a job
+abbrev pub Submits : Arrival → Type 0
+Submits a = (a.method ≡ Post) × (a.path.now ≡ codes "/jobs")
+
+-- The tables mean the queue, or the arrival submits a job: then nothing is looked for but its reply.
+abbrev pub SeesIn : Arrival → Queue → Queue → Type 0
+SeesIn a tables m = (tables ≡ m) ⊎ Submits a
+
 -- A request that is new is a step that its sender asks for, in a store that serves as long as the disk is clean. The floor is within bounds.
 abbrev pub IsFresh : Arrival → State → Looked → Type 0
 IsFresh a s (Known reply) = ⊤
-IsFresh a s (New new) = AsksStep a new.sender new.ask × (new.floor < 10 ^ 18) × (HasCleanDisk s → Serves s)
+IsFresh a s (New new) = AsksStep a new.sender new.ask × (new.floor < 10 ^ 18) × (HasCleanDisk s → Serves s) × (Submits a → IsSubmission new.ask)
 
 -- The reply is told by the verdict, and changes nothing. One that was kept comes from a store that serves.
 abbrev pub IsTold : Response → State → Verdict → Type 0
@@ -78,12 +87,12 @@ module _ {S : Type 0} (g : Ghosts S) (old new : Store S) where
   KnownWhere result P = (db : Database) → db.schema ≡ our_tables → (shown g old).now ≡ db → HasCleanDisk (shown g new) → P db → IfOk result IsKnown
 
   -- of what the tables mean now, what was found is one of which P holds, as long as the disk is clean
-  abbrev pub FindsOf : {E : Type 0} → Result Looked E → (Queue → Ledger → Looked → Type 0) → Type 0
-  FindsOf result P = (m : Queue) (k : Ledger) → Sound m → MeansNow (shown g old) m k → HasCleanDisk (shown g new) → IfOk result (P m k)
+  abbrev pub FindsOf : {E : Type 0} → Arrival → Result Looked E → (Queue → Ledger → Looked → Type 0) → Type 0
+  FindsOf a result P = (tables m : Queue) (k : Ledger) → Sound m → SeesIn a tables m → MeansNow (shown g old) tables k → HasCleanDisk (shown g new) → IfOk result (P m k)
 
   -- of a sound queue only a missing answer leaves nothing found, while the store serves
-  abbrev pub FailsForWant : Result Looked Fault → Type 0
-  FailsForWant result = (m : Queue) (k : Ledger) → Sound m → MeansNow (shown g old) m k → Serves (shown g new) → OnlyNoAnswer result
+  abbrev pub FailsForWant : Arrival → Result Looked Fault → Type 0
+  FailsForWant a result = (tables m : Queue) (k : Ledger) → Sound m → SeesIn a tables m → MeansNow (shown g old) tables k → Serves (shown g new) → OnlyNoAnswer result
 
   -- A view is shown: at the later of that moment and the clock.
   pub record Sees (result : Result Response Fault) (s : Settings) (what : View) (moment : ℕ) : Type 0 where
@@ -99,8 +108,8 @@ module _ {S : Type 0} (g : Ghosts S) (old new : Store S) where
     pub own : IfOk result (IsItsOwn sender ask)
     pub used : KnownWhere result (λ db. HasReply db sender.client.now sender.number)
     pub given : KnownWhere result (λ db. ReachesTo db sender.client.now sender.number)
-    pub found : AsksStep a sender ask → (s : Settings) → FindsOf result (λ m k. IsFoundFor s a sender ask m k (shown g new))
-    pub cause : FailsForWant result
+    pub found : AsksStep a sender ask → (s : Settings) → FindsOf a result (λ m k. IsFoundFor s a sender ask m k (shown g new))
+    pub cause : FailsForWant a result
 
   -- What an arrival asks for is looked for.
   pub record LooksFor (result : Result Looked Fault) (s : Settings) (a : Arrival) (ask : Ask) : Type 0 where
@@ -110,8 +119,8 @@ module _ {S : Type 0} (g : Ghosts S) (old new : Store S) where
     pub seen : a.method ≡ Get → IsAsk a.method a.path.now a.body.now ask → IfOk result IsKnown
     pub used : KnownWhere result (IsUsed a)
     pub given : KnownWhere result (IsGivenUp a)
-    pub found : AsksFor a ask → FindsOf result (λ m k. IsFound s a m k (shown g new))
-    pub cause : FailsForWant result
+    pub found : AsksFor a ask → FindsOf a result (λ m k. IsFound s a m k (shown g new))
+    pub cause : AsksFor a ask → FailsForWant a result
 
   -- An arrival is looked up: nothing changes, within a transaction or not.
   pub record LooksAt (result : Result Looked Fault) (s : Settings) (a : Arrival) : Type 0 where
@@ -125,5 +134,5 @@ module _ {S : Type 0} (g : Ghosts S) (old new : Store S) where
     pub used : KnownWhere result (IsUsed a)
     pub given : KnownWhere result (IsGivenUp a)
     -- Of a sound queue it is the arrival's verdict, or leads to it.
-    pub found : FindsOf result (λ m k. IsFound s a m k (shown g new))
-    pub cause : FailsForWant result
+    pub found : FindsOf a result (λ m k. IsFound s a m k (shown g new))
+    pub cause : FailsForWant a result

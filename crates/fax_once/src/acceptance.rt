@@ -1,25 +1,18 @@
 //! A request whose number is new is decided within a work, by the tables as they stand there, and what it changes is written
 //! there with its reply.
 
-ghost use Rattle.std.specs.Prelude.{◌≡◌, ◌<◌, ◌^◌, ⊤, true, false, OnOk};
-ghost use Rattle.fax_decide.specs.Effect.{Suits, accepted};
+ghost use Rattle.std.specs.Prelude.{◌≡◌, ◌<◌, ◌^◌, false};
 ghost use Rattle.fax_decide.specs.Settings.{settings_of};
-ghost use Rattle.fax_store.specs.Job.{with_expired};
-ghost use Rattle.fax_core.specs.Ledger.{IsKeptStatus};
-ghost use Rattle.fax_value.specs.Name.{IsName};
-ghost use Rattle.fax_once.specs.Known.{IsAged};
-ghost use Rattle.fax_once.specs.Acceptance.{Accepts, AnswersWithin, DecidesNow, DecidesWithin, IsAcceptable, ReadsMeta, WritesWithin, kept_after};
-ghost use Rattle.fax_run.specs.Arrival.{said_of};
-ghost use Rattle.fax_run.specs.Verdict.{without};
+ghost use Rattle.fax_once.specs.Acceptance.{AnswersWithin, DecidesNow, DecidesWithin, ReadsMeta};
 
-use crate::arrival::said_by;
-use crate::floor::{given_by, raised};
+use crate::accepting::accept;
+use crate::floor::raised;
 use crate::known::Known;
 use crate::sender::Sender;
 use fax_ask::Reply;
 use fax_core::Ask;
-use fax_decide::{Decision, Effect, Fault, Office, decide};
-use fax_job::{Moment, Refusal, RequestNumber};
+use fax_decide::{Decision, Fault, Office, decide};
+use fax_job::{Moment, Refusal};
 use fax_run::Arrival;
 use fax_store::{Meta, Store, StoreFault, Work};
 use sqlite::Alter;
@@ -34,25 +27,19 @@ pub(crate) enum Answered {
     Accepted(Reply),
 }
 
-/// What an accepted request changes, beside the reply that is kept.
-#[derive(Drop)]
-struct Change {
-    /// What it changes in the queue.
-    effect: Effect,
-    /// Through which number its client gives up its replies, if it does.
-    given: Option<RequestNumber>,
-}
-
-/// What is decided of a request, and when.
+/// What is decided of a request.
 #[derive(Drop)]
 struct Decided {
+    /// When: at the later of its moment and the clock.
     t: Moment,
+    /// The clock and the next numbers before it.
+    meta: Meta,
     decision: Decision,
 }
 
-/// Decides a request whose number is new, at the later of its moment and the clock, and writes what it changes. Nothing is
-/// committed. No client gives up the reply to the very request by which it does. What is `known` of the queue isn't read
-/// again; afterwards it is what is known then.
+/// Decides a request whose number is new, at the later of its moment and the clock, and writes what it changes, but for the
+/// clock and the next numbers, which `known` has then. Nothing is committed. No client gives up the reply to the very request
+/// by which it does.
 ///
 /// # Errors
 ///
@@ -75,21 +62,19 @@ pub(crate) fn answer_new<S: Alter>(
     let Some(ask) = raised(ask, sender.number, floor) else {
         return Ok(Answered::Unchanged(Reply::refused(Refusal::FloorHigh)));
     };
-    let given = given_by(&ask);
-    let Decided { t, decision } = decide_within(
+    let Decided { t, meta, decision } = decide_within(
         work,
         office,
         alloc,
         ask,
         arrival.moment,
-        known.meta,
+        known.meta(),
     )?;
     match decision {
         Decision::Taken { effect, reply } => {
-            let change = Change { effect, given };
             let is_aged = known.is_aged(t);
-            *known = Known::after(&change.effect, t);
-            accept(work, alloc, arrival, sender, t, is_aged, &change, reply)
+            *known = known.after(&effect, t, meta);
+            accept(work, alloc, arrival, sender, t, is_aged, &effect, reply)
         }
         Decision::Refused(reply) => Ok(Answered::Unchanged(reply)),
     }
@@ -131,7 +116,7 @@ fn decide_now<S: Alter>(
     let meta = meta_by(store, known)?;
     let t = meta.clock.later(moment);
     let decision = decide(store, office, alloc, ask, &meta, t)?;
-    Ok(Decided { t, decision })
+    Ok(Decided { t, meta, decision })
 }
 
 /// The clock and the next numbers, which are read unless they are known.
@@ -141,78 +126,5 @@ fn meta_by<S: Alter>(store: &mut Store<S>, known: Option<Meta>) -> Result<Meta, 
     match known {
         Some(meta) => Ok(meta),
         None => store.meta(),
-    }
-}
-
-/// Accepts a request that is taken: ages the queue at `decided_at`, unless it `is_aged`, makes the change, sets the clock and
-/// keeps the reply.
-fn accept<S: Alter>(
-    work: &mut Work<'_, S>,
-    alloc: Global,
-    arrival: &Arrival<'_>,
-    sender: &Sender<'_>,
-    decided_at: Moment,
-    is_aged: bool,
-    change: &Change,
-    reply: Reply,
-) -> Result<Answered, Fault>
-    ensures { Accepts S.Store work.old work.new result decided_at is_aged change.now sender.now (said_of arrival.now) reply }
-{
-    let said = said_by(alloc, arrival)?;
-    write_accepted(work, decided_at, is_aged, change, sender, &said, &reply)?;
-    Ok(Answered::Accepted(reply))
-}
-
-/// The writes of an accepted request.
-fn write_accepted<S: Alter>(
-    work: &mut Work<'_, S>,
-    decided_at: Moment,
-    is_aged: bool,
-    change: &Change,
-    sender: &Sender<'_>,
-    said: &[u8],
-    reply: &Reply,
-) -> Result<(), StoreFault>
-    ensures kept { OnOk result (IsKeptStatus reply.now.status) }
-    ensures goes_on { OnOk result (work.new.failed ≡ false) }
-    ensures writes { WritesWithin S.Store work.old work.new result (λ m. (is_aged ≡ true → IsAged decided_at m) × Suits change.now.effect (with_expired decided_at m))
-        (accepted decided_at change.now.effect) (kept_after sender.now said.now reply.now change.now.given)
-        (λ m k. (is_aged ≡ true → IsAged decided_at m) × IsAcceptable decided_at change.now sender.now reply.now m k) }
-{
-    age(work, decided_at, is_aged)?;
-    change.effect.write(work, decided_at)?;
-    give_up(work, sender.client, change.given)?;
-    work.keep(
-        sender.client,
-        sender.number,
-        said,
-        reply.status(),
-        reply.body(),
-    )
-}
-
-/// Lets the jobs fail that expire by `t`, unless it is known that none does.
-fn age<S: Alter>(work: &mut Work<'_, S>, t: Moment, is_aged: bool) -> Result<(), StoreFault>
-    ensures { WritesWithin S.Store work.old work.new result (λ m. is_aged ≡ true → IsAged t m) (with_expired t) (λ k. k)
-        (λ m k. ⊤) }
-{
-    if is_aged {
-        return Ok(());
-    }
-    work.expire_all(t)
-}
-
-/// Takes the replies away that the client gives up by its request, if it does.
-fn give_up<S: Alter>(
-    work: &mut Work<'_, S>,
-    client: &str,
-    given: Option<RequestNumber>,
-) -> Result<(), StoreFault>
-    ensures { WritesWithin S.Store work.old work.new result (λ m. ⊤) (λ m. m) (without client.now given)
-        (λ m k. IsName client.now) }
-{
-    match given {
-        Some(upto) => work.give_up(client, upto),
-        None => Ok(()),
     }
 }

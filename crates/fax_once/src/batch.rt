@@ -1,16 +1,17 @@
 //! A batch: arrivals that are answered one after the other within one work, before any of it is committed.
 
-ghost use Rattle.std.specs.Prelude.{◌≡◌, [], false};
+ghost use Rattle.std.specs.Prelude.{◌≡◌, [], false, true};
 ghost use Rattle.fax_decide.specs.Settings.{settings_of};
-ghost use Rattle.fax_once.specs.Batch.{AnswersEach, AnswersIn, AnswersTogether, LooksWithin, is_accepted, reply_in};
+ghost use Rattle.fax_once.specs.Batch.{AnswersEach, AnswersIn, AnswersTogether, LooksWithin, SettlesFor, is_accepted, reply_in};
+ghost use Rattle.fax_once.specs.Looking.{Submits};
 
 use crate::acceptance::{Answered, answer_new};
 use crate::known::Known;
 use crate::looking::{Looked, NewRequest, look_up};
-use fax_ask::{Reply, Routes};
+use fax_ask::{Method, Reply, Routes};
 use fax_decide::{Fault, Office};
 use fax_run::Arrival;
-use fax_store::{Store, Work};
+use fax_store::{Store, StoreFault, Work};
 use sqlite::Alter;
 use std::alloc::{AllocError, Global};
 
@@ -74,7 +75,8 @@ pub(crate) fn answer_together<S: Alter>(
 ///
 /// # Errors
 ///
-/// As those of [`answer_within`], for the first arrival without an answer. Then nothing of the work is to be committed.
+/// As those of [`answer_within`], for the first arrival without an answer, and of [`Known::settle`]. Then nothing of the work
+/// is to be committed.
 fn answer_each<S: Alter>(
     work: &mut Work<'_, S>,
     office: &Office,
@@ -97,6 +99,7 @@ fn answer_each<S: Alter>(
             return Err(AllocError::from(full).into());
         }
     }
+    known.settle(work)?;
     Ok(has_accepted)
 }
 
@@ -104,7 +107,7 @@ fn answer_each<S: Alter>(
 ///
 /// # Errors
 ///
-/// Want of memory and the faults of the store. Then nothing has changed in the work, or it can't be committed.
+/// Want of memory and the faults of the store. Then the work isn't to be committed.
 fn answer_within<S: Alter>(
     work: &mut Work<'_, S>,
     office: &Office,
@@ -116,12 +119,39 @@ fn answer_within<S: Alter>(
     requires { work.old.failed ≡ false }
     ensures { AnswersIn S.Store work.old work.new result (settings_of office.now.setup office.now.controls) arrival.now known.old known.new }
 {
+    *known = settle_for(work, arrival, *known)?;
     match look_within(work, office, routes, alloc, arrival)? {
         Looked::Known(reply) => Ok(Answered::Unchanged(reply)),
         Looked::New(NewRequest { sender, ask, floor }) => {
             answer_new(work, office, alloc, arrival, &sender, ask, floor, known)
         }
     }
+}
+
+/// Writes the clock and the next numbers where that is still to be done, unless the arrival submits a job: neither the look at
+/// its reply nor its decision reads them in the tables. Returns what is known then.
+///
+/// # Errors
+///
+/// `Unavailable`.
+fn settle_for<S: Alter>(
+    work: &mut Work<'_, S>,
+    arrival: &Arrival<'_>,
+    known: Known,
+) -> Result<Known, StoreFault>
+    ensures { SettlesFor S.Store work.old work.new result arrival.now known }
+{
+    if submits(arrival) {
+        return Ok(known);
+    }
+    known.settle(work)
+}
+
+/// Whether the arrival submits a job.
+fn submits(arrival: &Arrival<'_>) -> bool
+    ensures { result ≡ true → Submits arrival.now }
+{
+    arrival.method == Method::Post && arrival.path == "/jobs"
 }
 
 /// Looks at the tables for an arrival, as they stand within a work.

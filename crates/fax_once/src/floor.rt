@@ -1,20 +1,10 @@
 //! A client's floor: through which number it gives up its replies.
 
 ghost use Rattle.std.specs.Prelude.{◌≡◌, ◌<◌, ◌^◌, None, Some, if◌then◌else◌};
-ghost use Rattle.fax_run.specs.Verdict.{given_by, is_too_high, raised_ask};
+ghost use Rattle.fax_run.specs.Verdict.{is_too_high, raised_ask};
 
 use fax_core::Ask;
 use fax_job::RequestNumber;
-
-/// Through which number the client gives up its replies, if it does.
-pub(crate) fn given_by(ask: &Ask) -> Option<RequestNumber>
-    ensures { result ≡ given_by ask.now }
-{
-    match ask {
-        Ask::GiveUp { upto } => Some(*upto),
-        _ => None,
-    }
-}
 
 /// What is asked for, where the client's floor is this one, which rises only. None where the floor would reach the number
 /// under which it is asked for.

@@ -2,6 +2,7 @@
 #![tactic(auto)]
 
 mod acceptance;
+mod accepting;
 mod arrival;
 mod batch;
 mod floor;

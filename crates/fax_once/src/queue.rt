@@ -297,6 +297,7 @@ impl<S: Alter> Queue<S> {
         )? {
             Answered::Unchanged(reply) => Ok(reply),
             Answered::Accepted(reply) => {
+                known.settle(&mut work)?;
                 work.commit()?;
                 Ok(reply)
             }

@@ -5,7 +5,7 @@ use Rattle.sqlite.specs.declared.types.Value.TheVariants.{Null, Int, Text}
 use Rattle.sqlite_sql.specs.Term.{Term, lit, col, op1, op2}
 use Rattle.sqlite_sql.specs.declared.ops.UnaryOp.TheVariants.{Not}
 use Rattle.sqlite_sql.specs.declared.ops.BinaryOp.TheVariants.{Compare, Is, Or}
-use Rattle.sqlite_sql.specs.declared.ops.CompareOp.TheVariants.{Ne, Le, Ge, Gt}
+use Rattle.sqlite_sql.specs.declared.ops.CompareOp.TheVariants.{Le, Ge, Gt}
 use Rattle.sqlite.specs.Query.{Query, end, inner, left}
 use Rattle.sqlite.specs.Source.TheVariants.{Values}
 use Rattle.sqlite.specs.Command.TheVariants.{Insert, Update}
@@ -17,7 +17,7 @@ use Rattle.sqlite_value.specs.declared.keys.Key.{Key}
 use Rattle.fax_value.specs.Status.{kill_time_expired}
 use Rattle.fax_schema.specs.declared.statements.TheConstants.{SELECT_DIAL, SELECT_HELD, SELECT_HOLDERS, SELECT_LOST, SELECT_VERSION, UPDATE_VERSION}
 use Rattle.fax_schema.specs.declared.statements.TheConstants.{CREATE_JOBS, CREATE_REPLIES, CREATE_META, INSERT_META}
-use Rattle.fax_schema.specs.declared.statements.TheConstants.{SELECT_META, UPDATE_CLOCK, UPDATE_META}
+use Rattle.fax_schema.specs.declared.statements.TheConstants.{SELECT_META, UPDATE_META}
 use Rattle.fax_schema.specs.declared.statements.TheConstants.{SELECT_REPLY, INSERT_REPLY}
 use Rattle.fax_schema.specs.declared.statements.TheConstants.{SELECT_FIRST, SELECT_BEHIND_NUMBER, SELECT_BEHIND_TIME, SELECT_BEHIND_PRIORITY}
 use Rattle.fax_schema.specs.declared.statements.TheConstants.{SELECT_JOB, SELECT_BRIEF, INSERT_JOB, UPDATE_JOB, SELECT_EXPIRED, EXPIRE_JOBS, SELECT_BRIEFS, SELECT_BRIEFS_FROM}
@@ -131,17 +131,6 @@ update_project = col 1 0 ∷ col 1 0 ∷ lit Null ∷ col 0 0 ∷ col 0 1 ∷ co
 pub update_meta : Commands UPDATE_META.now (Update 5 (record { lets = []; body = rows_where meta_tree meta_tests update_project }))
 unfolding understood everything
 update_meta = record { is = refl; plain = (refl, refl) }
-
-abbrev pub clock_tests : List Term
-clock_tests = equals (col 1 0) (lit (Int (pos 1))) ∷ op2 (Compare Ne Binary) (col 1 2) (col 0 0) ∷ []
-
-abbrev pub clock_project : List Term
-clock_project = col 1 0 ∷ col 1 0 ∷ lit Null ∷ col 0 0 ∷ col 1 3 ∷ col 1 4 ∷ col 1 5 ∷ []
-
--- UPDATE_CLOCK sets the clock, where it is another
-pub update_clock : Commands UPDATE_CLOCK.now (Update 5 (program_of meta_tree clock_tests clock_project))
-unfolding understood everything
-update_clock = record { is = refl; plain = (refl, refl) }
 
 abbrev pub reply_tests : List Term
 reply_tests = equals (col 1 1) (col 0 0) ∷ equals (col 1 2) (col 0 1) ∷ []

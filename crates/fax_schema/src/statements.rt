@@ -204,9 +204,6 @@ pub const INSERT_FLOOR: &str = "INSERT INTO floors (client, upto) VALUES (?1, ?2
 
 pub const SELECT_META: &str = "SELECT clock, next_job, next_grant FROM meta WHERE one = 1";
 
-/// No row is written where the clock stands there already.
-pub const UPDATE_CLOCK: &str = "UPDATE meta SET clock = ?1 WHERE one = 1 AND clock <> ?1";
-
 pub const UPDATE_META: &str =
     "UPDATE meta SET clock = ?1, next_job = ?2, next_grant = ?3 WHERE one = 1";
 

@@ -1,5 +1,5 @@
 -- What the statements do by which a store comes to a database, and raises the version of its meta.
-use Rattle.std.proofs.Common.{◌≡◌, ◌≢◌, inl, inr, ℕ, List, [], ◌∷◌, codes, map, filter, get_or, if◌then◌else◌, Bool, true, false, arith, Ok, Err, IsErr, IsErrAnd, IsTrue, MatchResult, Result, refl, sym, subst, ap, ap₂, ◌∙◌, IfErr, ◌==◌, pos, ◌++◌, drop, ◌&&◌, Some, OnOk, OnErr}
+use Rattle.std.proofs.Common.{◌≡◌, ◌≢◌, inl, inr, ℕ, List, [], ◌∷◌, codes, map, filter, get_or, if◌then◌else◌, true, false, arith, Ok, Err, IsErr, IsErrAnd, IsTrue, Result, refl, sym, subst, ap, ap₂, ◌∙◌, IfErr, ◌==◌, pos}
 use Rattle.sqlite_rules.proofs.ListLemmas.{all_has}
 use Rattle.sqlite_trees.proofs.ListLemmas.{all_of, filter_all, map-map}
 use Rattle.std.specs.List.{list_any}
@@ -30,13 +30,12 @@ use Rattle.fax_tables.proofs.CreateLemmas.{added_none, added_there, commit_kept,
 use Rattle.fax_layout.proofs.StopLemmas.{nothing_then}
 use Rattle.fax_layout.proofs.DatabaseLemmas.{same_database}
 use Rattle.fax_layout.specs.Stop.{HoldsBack}
-use Rattle.fax_layout.proofs.RowsLemmas.{all_front, all_given, all_mapped, at_tree, kept_back, kept_rows, all_behind, all_both, others_kept}
+use Rattle.fax_layout.proofs.RowsLemmas.{all_given, at_tree, kept_back, kept_rows}
 use Rattle.fax_schema.proofs.OursLemmas.{not_ours}
 use Rattle.fax_layout.proofs.SelectLemmas.{answers}
 use Rattle.sqlite_schema.specs.declared.schema.Schema.{Schema}
-use Rattle.sqlite_schema.specs.declared.schema.Table.{Table}
 use Rattle.fax_store.specs.Adopt.{Adopts, AreAdopted, AreOnTheWay, AreTaken, Founds, HasBecome, HasNone, HasNoStrays, HasThird, HasTimes, HoldsCanBeCalled, IsAdoptable, IsFilled, IsIn, IsOurs, IsRaisable, IsTakeable, IsTaken, IsUntimed, MeansAs, QueuesAreTakeable, Settles, Takes, Turns, CoreMeans, HoldJobs, IsSettled, IsWhole}
-use Rattle.fax_store.specs.Store.{CommitsNothing, GoesBack, MayMake, RowsFound, Serves, HasRun, LeavesCommit}
+use Rattle.fax_store.specs.Store.{CommitsNothing, GoesBack, MayMake, RowsFound, Serves, HasRun}
 use Rattle.fax_store.proofs.ControlLemmas.{begins, commits}
 use Rattle.fax_store.proofs.HeldLemmas.{held_still, rows_callable}
 use Rattle.fax_schema.proofs.StatementTexts.{select_version, version_project, raise_project, update_version}
@@ -47,12 +46,9 @@ use Rattle.sqlite_rules.proofs.TableLemmas.{int_is}
 use Rattle.std.proofs.lemmas.List.{map-id}
 use Rattle.sqlite.specs.Cast.{cast_row}
 use Rattle.sqlite.specs.Tree.{rowid}
-use Rattle.sqlite.specs.declared.types.Value.{Value}
-use Rattle.sqlite.specs.declared.types.Value.TheVariants.{Null, Int, Real, Text, Blob}
+use Rattle.sqlite.specs.declared.types.Value.TheVariants.{Null}
 use Rattle.sqlite_rules.specs.Cast.{cast}
 use Rattle.sqlite.specs.View.{is_int}
-use Rattle.sqlite_schema.specs.Rules.{Keeps, are_typed, is_of, passes as obeys}
-use Rattle.sqlite_schema.specs.declared.schema.Constraint.TheVariants.{Datatype}
 use Rattle.sqlite_schema.specs.declared.schema.Kind.TheVariants.{Integer}
 use Rattle.fax_layout.proofs.CompareLemmas.{cast_int, cast_null, same_row}
 use Rattle.fax_schema.proofs.UpdateLemmas.{program_of, updated}
@@ -60,7 +56,6 @@ use Rattle.fax_store.proofs.TimedLemmas.{typed, typed_same}
 use Rattle.fax_store.proofs.TurnLemmas.{Leaves, leaves_by, only_at, only_by}
 use Rattle.fax_layout.proofs.WriteLemmas.{KeepsOthers, updates}
 use Rattle.fax_schema.proofs.OursLemmas.{unreferred}
-use Rattle.sqlite.proofs.InsideLemmas.{unchanged_keeps}
 
 -- what goes back to the commit that a call kept, goes back to that before it
 pub back_over : (old mid new : State) → (Serves mid → Serves old) → (HasCleanDisk mid → KeepsCommit old mid) → GoesBack mid new → GoesBack old new

@@ -1,6 +1,5 @@
 -- The jobs of rows of numbers end, one after the other.
-use Rattle.std.proofs.Common.{◌≡◌, ◌∙◌, ◌||◌, ◌&&◌, ◌++◌, ◌==◌, ℕ, Bool, true, false, List, [], ◌∷◌, map, refl, sym, ap, ap₂, subst, Ok, Err, Result, IfErr}
-use Rattle.std.specs.List.{list_any}
+use Rattle.std.proofs.Common.{◌≡◌, ◌∙◌, ◌||◌, ◌&&◌, ◌++◌, ◌==◌, ℕ, Bool, true, false, List, [], ◌∷◌, map, refl, sym, ap, ap₂, subst, Ok}
 use Rattle.std.proofs.Math.Bool.{or-false}
 use Rattle.std.proofs.lemmas.Bool.{and_left}
 use Rattle.sqlite.specs.Order.{Row}
@@ -18,7 +17,6 @@ use Rattle.fax_store.specs.Times.{is_among, is_over_as, with_ends}
 use Rattle.fax_store.specs.Work.{IsUnderWay, Works}
 use Rattle.fax_store.specs.declared.store.Store.{Store}
 use Rattle.fax_tables.specs.Row.{number}
-use Rattle.fax_tables.specs.declared.fault.StoreFault.{StoreFault}
 use Rattle.fax_store.proofs.FrameLemmas.{runs_then}
 
 -- one of these or of those

@@ -14,7 +14,7 @@ use Rattle.sqlite.proofs.InsideLemmas.{unchanged_keeps}
 use Rattle.sqlite.proofs.StateLemmas.{unchanged}
 use Rattle.sqlite.specs.Effect.{Database}
 use Rattle.fax_store.specs.Adopt.{Tests}
-use Rattle.fax_store.specs.Calls.{Answers, Calls, Edits, Finds, Follows, Inserts, Looks, Makes, MakesIf, MakesIfWhere, MakesWhere, Queries, Runs, Writes, WritesIf, WritesIfWhere, WritesWhere, shown, within}
+use Rattle.fax_store.specs.Calls.{Answers, Calls, Edits, Finds, Follows, Inserts, Looks, Makes, MakesIf, MakesWhere, Queries, Runs, Writes, WritesIf, WritesIfWhere, WritesWhere, shown, within}
 use Rattle.fax_store.specs.Work.{IsOnlyUnavailable, IsUnderWay, Keeps, Moves, Steps, Works}
 use Rattle.fax_store.specs.Store.{CommitsNothing, FindsRow, HasRun, HasTables, Means, MeansNow, Reads, Serves, IsEditText, LeavesCommit}
 use Rattle.fax_store.specs.declared.store.Store.{Store}
@@ -388,13 +388,5 @@ module _ {S : Type 0} (g : Ghosts S) where
       makes_if_by writes = record {
         leaves = calls_by writes.leaves;
         changes = rw (on, fails) (moved_by (shown g old.store.now) (shown g next) result f h writes.written);
-        cause = λ m₀ m k₀ k works s fits. writes.cause m₀ m k₀ k (subst (λ b. Works (shown g old.store.now) b m₀ k₀ m k) on works) s fits;
-      }
-
-      pub makes_if_where_by : {P : Queue → Type 0} {Fit : Queue → Ledger → Type 0} → WritesIfWhere g old.store.now next result P Fit f h
-          → MakesIfWhere g old (after old next failed) result P Fit f h
-      makes_if_where_by {P} writes = record {
-        leaves = calls_by writes.leaves;
-        changes = rw (on, fails) (steps_where (shown g old.store.now) (shown g next) P result f h writes.written);
         cause = λ m₀ m k₀ k works s fits. writes.cause m₀ m k₀ k (subst (λ b. Works (shown g old.store.now) b m₀ k₀ m k) on works) s fits;
       }

@@ -1,5 +1,5 @@
 -- What the texts on jobs read and write.
-use Rattle.std.proofs.Common.{IsPermutation, filter, ◌≡◌, ℕ, zero, suc, pos, ◌+◌, ◌-◌, ◌≤◌, List, [], ◌∷◌, ◌++◌, map, arith, false, Option, Some, None, Err, drop, refl, sym, ap, ap₂, subst, ◌∙◌, ◌<◌, inl, inr, All, Bool, true, ◌&&◌, ◌||◌, unwrap_or, if◌then◌else◌, option_map, ◌==◌, IsTrue, is_some, find, nat_le, IsUtf8}
+use Rattle.std.proofs.Common.{IsPermutation, filter, ◌≡◌, ℕ, zero, suc, pos, ◌+◌, ◌-◌, ◌≤◌, List, [], ◌∷◌, ◌++◌, map, arith, false, Option, Some, None, Err, drop, refl, sym, ap, ap₂, subst, ◌∙◌, ◌<◌, inl, inr, Bool, true, ◌&&◌, ◌||◌, unwrap_or, if◌then◌else◌, option_map, ◌==◌, IsTrue, find, nat_le, IsUtf8}
 use Rattle.std.specs.List.{range_with_len}
 use Rattle.std.proofs.lemmas.List.FromFn.{length-range_with_len}
 use Rattle.sqlite.specs.Effect.{Database}

@@ -1,6 +1,6 @@
 -- What the texts show and leave by which a store drops the grants whose job isn't there.
-use Rattle.std.proofs.Common.{◌≡◌, inl, inr, ℕ, List, [], ◌∷◌, ◌++◌, map, filter, flat_map, Bool, true, false, cond, not, ◌&&◌, ◌||◌, codes, IsTrue, IsPermutation, refl, sym, ap, ap₂, subst, ◌∙◌, arith}
-use Rattle.std.specs.List.{AllByRecursion, list_all, list_any}
+use Rattle.std.proofs.Common.{◌≡◌, inl, inr, List, [], ◌∷◌, ◌++◌, map, filter, flat_map, Bool, true, false, cond, not, ◌&&◌, ◌||◌, IsTrue, IsPermutation, refl, sym, ap, ap₂, subst, ◌∙◌, arith}
+use Rattle.std.specs.List.{list_all}
 use Rattle.std.specs.Ordering.{is_eq}
 use Rattle.std.specs.declared.cmp.Ordering.{Ordering}
 use Rattle.std.specs.declared.cmp.Ordering.TheVariants.{Less, Equal, Greater}
@@ -15,7 +15,7 @@ use Rattle.sqlite.specs.Collation.TheVariants.{Binary}
 use Rattle.sqlite.specs.Effect.{Database}
 use Rattle.sqlite.specs.Order.{Row, column}
 use Rattle.sqlite.specs.Program.{overlay}
-use Rattle.sqlite.specs.Query.{IsAnswer, output, Output, or_nulls}
+use Rattle.sqlite.specs.Query.{IsAnswer, output, Output}
 use Rattle.sqlite.specs.State.{State, Shown}
 use Rattle.sqlite.specs.Tree.{rowid}
 use Rattle.sqlite.specs.View.{is_int}
@@ -38,7 +38,7 @@ use Rattle.fax_layout.proofs.ColumnLemmas.{none_holds}
 use Rattle.fax_layout.proofs.CompareLemmas.{compared}
 use Rattle.fax_layout.proofs.EditLemmas.{fewer_by, one_shown, shown_one}
 use Rattle.fax_layout.proofs.SelectLemmas.{each_passing}
-use Rattle.fax_schema.proofs.StatementTexts.{job_tests, lost_on, lost_tests}
+use Rattle.fax_schema.proofs.StatementTexts.{job_tests, lost_on}
 use Rattle.fax_schema.proofs.TimesTexts.{delete_grant, select_strays, strays_query}
 use Rattle.fax_schema.proofs.UpdateLemmas.{deleted, gone_project, program_of}
 use Rattle.fax_layout.proofs.WriteLemmas.{KeepsOthers, deletes}

@@ -1,6 +1,5 @@
 -- What the texts show and leave by which a store puts in the times of all jobs.
-use Rattle.std.proofs.Common.{◌≡◌, ◌⊎◌, inl, inr, ℕ, pos, List, [], ◌∷◌, ◌++◌, map, filter, drop, Bool, true, false, ◌&&◌, codes, IsTrue, IsPermutation, Ok, Some, Option, get_or, refl, sym, ap, ap₂, subst, ◌∙◌, arith, if◌then◌else◌}
-use Rattle.std.specs.List.{AllByRecursion}
+use Rattle.std.proofs.Common.{◌≡◌, inl, inr, pos, List, [], ◌∷◌, ◌++◌, map, filter, drop, Bool, true, ◌&&◌, codes, IsTrue, IsPermutation, Ok, Some, get_or, refl, sym, ap, subst, ◌∙◌, arith, if◌then◌else◌}
 use Rattle.std.proofs.lemmas.Bool.{and_parts, cases_Bool}
 use Rattle.std.proofs.lemmas.List.{map-append}
 use Rattle.sqlite.proofs.Callers.{reads_as, runs_as}
@@ -23,7 +22,7 @@ use Rattle.sqlite_rules.proofs.TableLemmas.{int_is, put_all_adds, put_all_keeps,
 use Rattle.sqlite_schema.specs.Rules.{Keeps, are_typed, is_of, passes as obeys}
 use Rattle.sqlite_schema.specs.declared.schema.Constraint.TheVariants.{Datatype}
 use Rattle.sqlite_schema.specs.declared.schema.Kind.TheVariants.{Integer}
-use Rattle.sqlite_trees.proofs.ListLemmas.{all_of, ascending-map, filter_all}
+use Rattle.sqlite_trees.proofs.ListLemmas.{ascending-map}
 use Rattle.sqlite_trees.proofs.TreeLemmas.{IsTable-put_row}
 use Rattle.fax_layout.proofs.CompareLemmas.{cast_int, cast_null, same_row}
 use Rattle.fax_layout.proofs.EditLemmas.{has_mapped, one_shown, same_rows, shown_one}

@@ -1,12 +1,12 @@
 -- What the texts on the times of jobs write.
-use Rattle.std.proofs.Common.{◌≡◌, ◌≤◌, ◌<◌, ◌^◌, ◌==◌, Some, ◌||◌, ◌++◌, ℕ, pos, Bool, true, false, List, [], ◌∷◌, map, None, Err, refl, sym, ap, ap₂, subst, ◌∙◌, cond, drop}
-use Rattle.std.proofs.lemmas.Bool.{cond_both, cases_Bool, eq-eqb}
+use Rattle.std.proofs.Common.{◌≡◌, ◌≤◌, ◌<◌, ◌^◌, ◌==◌, Some, ℕ, pos, false, [], ◌∷◌, map, None, Err, refl, sym, ap, ap₂, subst, ◌∙◌, drop}
+use Rattle.std.proofs.lemmas.Bool.{cond_both, eq-eqb}
 use Rattle.sqlite.specs.Cast.{cast_row}
 use Rattle.sqlite.specs.Edit.{is_taken, with_rowid}
 use Rattle.sqlite.specs.Order.{Row}
 use Rattle.sqlite.specs.Rowids.TheVariants.{Chosen}
 use Rattle.sqlite.specs.State.{State, Executes}
-use Rattle.sqlite.specs.Tree.{put_row, rowid}
+use Rattle.sqlite.specs.Tree.{put_row}
 use Rattle.sqlite.specs.declared.error.Error.{Error}
 use Rattle.sqlite.proofs.Callers.{reads_as, runs_as}
 use Rattle.fax_value.specs.Limits.{last_moment}

@@ -1,5 +1,5 @@
 -- Steps within the transaction that adopts a database, one after the other.
-use Rattle.std.proofs.Common.{◌≡◌, ◌≢◌, ◌⊎◌, ℕ, ◌==◌, List, [], ◌∷◌, true, false, Ok, Err, Result, IfErr, IsErrAnd, MatchResult, OnErr, OnOk, refl, subst, sym, ap, ◌∙◌, arith}
+use Rattle.std.proofs.Common.{◌≡◌, ◌≢◌, ℕ, ◌==◌, List, [], ◌∷◌, true, Ok, Err, Result, IsErrAnd, MatchResult, OnErr, OnOk, refl, subst, sym, ap, ◌∙◌}
 use Rattle.std.specs.Prelude.{⊤}
 use Rattle.std.specs.List.{AllByRecursion, list_any}
 use Rattle.sqlite.proofs.InsideLemmas.{unchanged_keeps}
@@ -11,16 +11,14 @@ use Rattle.sqlite_trees.specs.declared.store.Store.{Ghosts}
 use Rattle.fax_layout.proofs.RowsLemmas.{at_tree}
 use Rattle.fax_layout.proofs.WriteLemmas.{KeepsOthers}
 use Rattle.fax_schema.specs.Schema.{calls_tree, our_tables}
-use Rattle.fax_store.proofs.WorkLemmas.{both_as, refused_as}
+use Rattle.fax_store.proofs.WorkLemmas.{refused_as}
 use Rattle.fax_store.specs.Adopt.{ChangesOnly, HasNone, Turns, TurnsOrUnavailable}
 use Rattle.fax_store.specs.Calls.{Edits, Finds, shown}
-use Rattle.fax_store.specs.Store.{CommitsNothing, HasRun, HasTables, LeavesCommit}
+use Rattle.fax_store.specs.Store.{HasRun, LeavesCommit}
 use Rattle.fax_store.specs.declared.store.Store.{Store}
 use Rattle.fax_tables.proofs.CreateLemmas.{commit_kept, goes_on, inside_shown}
-use Rattle.fax_layout.proofs.StopLemmas.{nothing_then}
 use Rattle.fax_tables.specs.Tables.{GoesOn}
 use Rattle.fax_tables.specs.declared.fault.StoreFault.{StoreFault}
-use Rattle.fax_tables.specs.declared.fault.StoreFault.TheVariants.{Unavailable}
 
 -- a step leaves what the next begins with
 abbrev pub Leaves : (State → Type 0) → (Database → Database → Type 0) → (State → Type 0) → Type 1

@@ -235,9 +235,3 @@ module _ {S : Type 0} (g : Ghosts S) where
     pub leaves : Calls old new result
     pub changes : Becomes old new f h
     pub cause : FailsOnly old new result Fit
-
-  -- So it does of a queue of which P holds.
-  pub record MakesIfWhere {A : Type 0} (old new : Work S) (result : Result A StoreFault) (P : Queue → Type 0) (Fit : Queue → Ledger → Type 0) (f : Queue → Queue) (h : Ledger → Ledger) : Type 0 where
-    pub leaves : Calls old new result
-    pub changes : BecomesWhere old new P f h
-    pub cause : FailsOnly old new result Fit

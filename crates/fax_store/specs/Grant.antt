@@ -1,5 +1,5 @@
 -- What is made of the grants of a queue.
-use Rattle.std.specs.Prelude.{◌≡◌, ◌≢◌, ℕ, ◌+◌, true, false, List, [], ◌∷◌, map, Option, Some, None, IsTrue, if◌then◌else◌}
+use Rattle.std.specs.Prelude.{◌≡◌, ◌≢◌, ℕ, true, false, List, [], ◌∷◌, map, Option, Some, None, IsTrue, if◌then◌else◌}
 use Rattle.std.specs.List.Sorted.{IsPermutation}
 use Rattle.std.specs.Str.{bytes_eq}
 use Rattle.sqlite.specs.Effect.{Database, IsDatabase}
@@ -23,10 +23,6 @@ use Rattle.fax_store.specs.Store.{HasRow, HasTables, StandsOrNone}
 -- the queue with one more grant
 abbrev pub with_placed : Grant → Queue → Queue
 with_placed g m = record m { grants = placed (λ h. h.number) g m.grants }
-
--- the queue with one more grant and the next number one greater
-abbrev pub with_one_more_grant : Grant → Queue → Queue
-with_one_more_grant g m = record m { grants = placed (λ h. h.number) g m.grants; next_grant = m.next_grant + 1 }
 
 -- no grant has its number, and neither its modem nor its job holds one
 pub record IsNewGrant (g : Grant) (m : Queue) : Type 0 where

@@ -1,5 +1,5 @@
 -- What is made of the jobs of a queue, and which of them wait.
-use Rattle.std.specs.Prelude.{◌≡◌, ℕ, Bool, not, List, [], ◌∷◌, ◌++◌, ◌+◌, map, filter, nat_le, Option, Some, None, if◌then◌else◌}
+use Rattle.std.specs.Prelude.{◌≡◌, ℕ, Bool, not, List, [], ◌∷◌, ◌++◌, map, filter, nat_le, Option, Some, None, if◌then◌else◌}
 use Rattle.std.specs.Ordering.{is_lt}
 use Rattle.std.specs.List.{range_with_len}
 use Rattle.std.specs.List.Sorted.{IsPermutation, IsSortedBy}
@@ -29,9 +29,9 @@ use Rattle.fax_tables.specs.Row.{number}
 abbrev pub with_placed : Job → Queue → Queue
 with_placed j m = record m { jobs = placed (λ k. k.number) j m.jobs }
 
--- the queue with one more job, which came in at t, and the next number one greater
+-- the queue with one more job, which came in at t
 abbrev pub with_one_more_job : ℕ → Job → Queue → Queue
-with_one_more_job t j m = record (with_came t j (with_placed j m)) { next_job = m.next_job + 1 }
+with_one_more_job t j m = with_came t j (with_placed j m)
 
 -- no job has its number, and no times
 abbrev pub IsNewJob : Job → Queue → Type 0

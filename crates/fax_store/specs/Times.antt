@@ -5,7 +5,7 @@ use Rattle.sqlite.specs.Effect.{Database}
 use Rattle.fax_job.specs.declared.job.Phase.{Phase}
 use Rattle.fax_core.specs.Ageing.{is_past}
 use Rattle.fax_core.specs.Job.{Job}
-use Rattle.fax_core.specs.Queue.{Queue, job_numbered, times_numbered}
+use Rattle.fax_core.specs.Queue.{Queue, times_numbered}
 use Rattle.fax_core.specs.Stamp.{came, ended_where}
 use Rattle.fax_core.specs.Times.{has_ended}
 use Rattle.fax_core.specs.declared.times.Times.{Times}

@@ -10,8 +10,7 @@ ghost use Rattle.fax_core.specs.Queue.{Queue, grant_numbered, open_grants};
 ghost use Rattle.fax_core.specs.State.{calls_to};
 ghost use Rattle.fax_value.specs.Limits.{most_pages};
 ghost use Rattle.fax_store.specs.Calls.{Answers, AnswersRows, BecomesWhere, Calls, Finds, LooksUpLawful, MakesIf, RecallsRows, Runs, WritesIf, WritesIfWhere, WritesWhere, shown};
-ghost use Rattle.fax_store.specs.Grant.{CallsStand, GrantStands, HasCalls, HasGrantRow, HasHoldRow, HoldStands, HoldersStand, IsCalled, IsHeld, IsHeldBy, IsNewGrant, IsReport, SetsCalls, with_count, with_placed, with_one_more_grant, with_closed};
-ghost use Rattle.fax_store.specs.Meta.{IsGrantLeft};
+ghost use Rattle.fax_store.specs.Grant.{CallsStand, GrantStands, HasCalls, HasGrantRow, HasHoldRow, HoldStands, HoldersStand, IsCalled, IsHeld, IsHeldBy, IsNewGrant, IsReport, SetsCalls, with_count, with_placed, with_closed};
 ghost use Rattle.fax_store.specs.Store.{Serves, HasTables};
 ghost use Rattle.fax_store.specs.Work.{Works, Moves, Steps};
 ghost use Rattle.fax_tables.specs.Fault.{OrUnavailable};
@@ -28,9 +27,7 @@ use fax_schema::statements::{
     DELETE_CALLS, DELETE_HOLD, INSERT_CALLS, INSERT_GRANT, INSERT_HOLD, SELECT_GRANT, SELECT_HOLD,
     SELECT_HOLDERS, SELECT_OPEN, SHUT_GRANT, UPDATE_REPORT,
 };
-use fax_tables::{
-    Hold, Meta, PAST_GRANTS, StoreFault, call_number, calls_in, grant_in, holders_in, is_open_grant,
-};
+use fax_tables::{Hold, StoreFault, call_number, calls_in, grant_in, holders_in, is_open_grant};
 use sqlite::{Alter, params};
 
 impl<S: Alter> Store<S> {
@@ -164,20 +161,12 @@ impl<S: Alter> Store<S> {
 
     fn add_grant(&mut self, grant: &Grant) -> Result<(), StoreFault>
         ensures { WritesIf S.Store self.old self.new result (λ m k. IsOpenGrant grant.now × IsNewGrant grant.now m
-            × HasJob m grant.now × IsGrantLeft m) (with_one_more_grant grant.now) (λ k. k) }
+            × HasJob m grant.now) (with_placed grant.now) (λ k. k) }
     {
         if !is_open_grant(grant) {
             return Err(StoreFault::Strange);
         }
-        let meta = self.meta()?;
-        if meta.next_grant >= PAST_GRANTS {
-            return Err(StoreFault::Strange);
-        }
-        self.insert_grant(grant)?;
-        self.write_meta(Meta {
-            next_grant: meta.next_grant + 1,
-            ..meta
-        })
+        self.insert_grant(grant)
     }
 
     fn write_report(&mut self, grant: &Grant) -> Result<(), StoreFault>
@@ -240,17 +229,16 @@ impl<S: Alter> Store<S> {
 }
 
 impl<S: Alter> Work<'_, S> {
-    /// Adds an open grant of a number that no grant has, to a modem and a job that hold none, and
-    /// makes the next number one greater.
+    /// Adds an open grant of a number that no grant has, to a modem and a job that hold none. The next number stays as it
+    /// is.
     ///
     /// # Errors
     ///
     /// `Unavailable`, or `Strange` where a grant has the number, the modem or the job holds one, the
-    /// job isn't there, the grant is not open, its numbers are past their limits or no next number is
-    /// left.
+    /// job isn't there, the grant is not open or its numbers are past their limits.
     pub fn put_grant(&mut self, grant: &Grant) -> Result<(), StoreFault>
         ensures { MakesIf S.Store self.old self.new result (λ m k. IsOpenGrant grant.now × IsNewGrant grant.now m
-            × HasJob m grant.now × IsGrantLeft m) (with_one_more_grant grant.now) (λ k. k) }
+            × HasJob m grant.now) (with_placed grant.now) (λ k. k) }
     {
         if self.failed {
             return Err(StoreFault::Unavailable);

@@ -4,12 +4,10 @@ ghost use Rattle.std.specs.Prelude.{◌≡◌, ◌<◌, ℕ, List, [], ◌∷◌
 ghost use Rattle.std.specs.Option.{option_map};
 ghost use Rattle.fax_core.specs.Job.{job_of, fields_of};
 ghost use Rattle.fax_core.specs.Queue.{job_numbered};
-ghost use Rattle.fax_store.specs.Calls.{LooksUp, Makes, MakesIfWhere, MakesWhere, RecallsLawful, RecallsOnly, Writes, WritesIf, WritesIfWhere, WritesWhere};
+ghost use Rattle.fax_store.specs.Calls.{LooksUp, Makes, MakesIf, MakesWhere, RecallsLawful, RecallsOnly, Writes, WritesIf, WritesWhere};
 ghost use Rattle.fax_store.specs.Job.{BriefStands, BriefsStand, BriefsStandFrom, HasJobRow, JobStands, IsChange, IsNewJob, jobs_from, with_change, with_placed, with_one_more_job, with_expired, with_expired_in, with_failed_in, with_set};
-ghost use Rattle.fax_store.specs.Meta.{IsJobLeft, with_clock};
 ghost use Rattle.fax_store.specs.Times.{is_among, is_expired};
 ghost use Rattle.fax_tables.specs.Job.{brief};
-ghost use Rattle.fax_tables.specs.Meta.{meta_of};
 ghost use Rattle.fax_tables.specs.Row.{number};
 
 use crate::store::Store;
@@ -21,8 +19,7 @@ use fax_schema::statements::{
     SELECT_JOB, UPDATE_JOB,
 };
 use fax_tables::{
-    Meta, PAST_JOBS, StoreFault, brief_in, briefs_in, job_in, killtime_number, phase_number,
-    spelling, wish_number,
+    StoreFault, brief_in, briefs_in, job_in, killtime_number, phase_number, spelling, wish_number,
 };
 use sqlite::{Alter, Row, params};
 
@@ -198,40 +195,29 @@ impl<S: Alter> Store<S> {
         self.run(EXPIRE_JOBS, params![t.seconds(), phase_number(phase)])
     }
 
-    fn add_next_job(&mut self, job: &Job, meta: Meta, clock: Moment) -> Result<(), StoreFault>
-        ensures { WritesIfWhere S.Store self.old self.new result (λ m. meta ≡ meta_of m)
-            (λ m k. (meta ≡ meta_of m) × IsNewJob (job_of job.now) m × IsJobLeft m)
-            (λ m. with_clock clock (with_one_more_job clock (job_of job.now) m)) (λ k. k) }
+    fn add_job(&mut self, job: &Job, t: Moment) -> Result<(), StoreFault>
+        ensures { WritesIf S.Store self.old self.new result (λ m k. IsNewJob (job_of job.now) m)
+            (with_one_more_job t (job_of job.now)) (λ k. k) }
     {
-        if meta.next_job >= PAST_JOBS {
-            return Err(StoreFault::Strange);
-        }
         self.insert_job(job)?;
-        self.insert_times(job, clock)?;
-        self.write_meta(Meta {
-            clock,
-            next_job: meta.next_job + 1,
-            next_grant: meta.next_grant,
-        })
+        self.insert_times(job, t)
     }
 }
 
 impl<S: Alter> Work<'_, S> {
-    /// Adds a job of a number that no job has, which came in at `clock`, makes the next number one greater and sets the
-    /// clock. `meta` has the clock and the next numbers before, which aren't read again.
+    /// Adds a job of a number that no job has, which came in at `t`. The next number stays as it is.
     ///
     /// # Errors
     ///
-    /// `Unavailable`, or `Strange` where a job has the number or no next number is left.
-    pub fn put_next_job(&mut self, job: &Job, meta: Meta, clock: Moment) -> Result<(), StoreFault>
-        ensures { MakesIfWhere S.Store self.old self.new result (λ m. meta ≡ meta_of m)
-            (λ m k. (meta ≡ meta_of m) × IsNewJob (job_of job.now) m × IsJobLeft m)
-            (λ m. with_clock clock (with_one_more_job clock (job_of job.now) m)) (λ k. k) }
+    /// `Unavailable`, or `Strange` where a job has the number.
+    pub fn put_job(&mut self, job: &Job, t: Moment) -> Result<(), StoreFault>
+        ensures { MakesIf S.Store self.old self.new result (λ m k. IsNewJob (job_of job.now) m)
+            (with_one_more_job t (job_of job.now)) (λ k. k) }
     {
         if self.failed {
             return Err(StoreFault::Unavailable);
         }
-        let done = self.store.add_next_job(job, meta, clock);
+        let done = self.store.add_job(job, t);
         self.failed = done.is_err();
         done
     }

@@ -1,19 +1,15 @@
 //! The clock and the next numbers.
 
-ghost use Rattle.std.specs.Prelude.{◌≡◌, false};
-ghost use Rattle.fax_core.specs.Ledger.{Ledger};
+ghost use Rattle.std.specs.Prelude.{◌≡◌};
 ghost use Rattle.fax_core.specs.Queue.{Queue};
-ghost use Rattle.fax_store.specs.Calls.{Makes, RecallsLawful, Runs, Writes, shown};
-ghost use Rattle.fax_store.specs.Meta.{MetaStands, with_clock};
-ghost use Rattle.fax_store.specs.Store.{Serves};
-ghost use Rattle.fax_store.specs.Work.{Works, Steps};
+ghost use Rattle.fax_store.specs.Calls.{MakesWhere, RecallsLawful, WritesWhere};
+ghost use Rattle.fax_store.specs.Meta.{MetaStands};
 ghost use Rattle.fax_tables.specs.Meta.{meta_of, with_meta};
 ghost use Rattle.fax_tables.specs.Tables.{IsLawfulMeta};
 
 use crate::store::Store;
 use crate::work::Work;
-use fax_job::Moment;
-use fax_schema::statements::{SELECT_META, UPDATE_CLOCK, UPDATE_META};
+use fax_schema::statements::{SELECT_META, UPDATE_META};
 use fax_tables::{Meta, StoreFault};
 use sqlite::{Alter, params};
 
@@ -34,37 +30,28 @@ impl<S: Alter> Store<S> {
     }
 
     pub(crate) fn write_meta(&mut self, meta: Meta) -> Result<(), StoreFault>
-        ensures leaves { Runs S.Store self.old self.new result }
-        ensures written { (m₀ m : Queue) (k₀ k : Ledger) → Works (shown S.Store self.old) false m₀ k₀ m k
-            → Serves (shown S.Store self.new) → IsLawfulMeta (with_meta meta m)
-            → Steps (shown S.Store self.new) result m₀ k₀ (with_meta meta m) k }
+        ensures { WritesWhere S.Store self.old self.new result (λ m. IsLawfulMeta (with_meta meta m)) (with_meta meta) (λ k. k) }
     {
         self.run(
             UPDATE_META,
             params![meta.clock.seconds(), meta.next_job, meta.next_grant],
         )
     }
-
-    fn write_clock(&mut self, clock: Moment) -> Result<(), StoreFault>
-        ensures { Writes S.Store self.old self.new result (with_clock clock) (λ k. k) }
-    {
-        self.run(UPDATE_CLOCK, params![clock.seconds()])
-    }
 }
 
 impl<S: Alter> Work<'_, S> {
-    /// Sets the clock.
+    /// Sets the clock and the next numbers.
     ///
     /// # Errors
     ///
     /// `Unavailable`.
-    pub fn set_clock(&mut self, clock: Moment) -> Result<(), StoreFault>
-        ensures { Makes S.Store self.old self.new result (with_clock clock) (λ k. k) }
+    pub fn put_meta(&mut self, meta: Meta) -> Result<(), StoreFault>
+        ensures { MakesWhere S.Store self.old self.new result (λ m. IsLawfulMeta (with_meta meta m)) (with_meta meta) (λ k. k) }
     {
         if self.failed {
             return Err(StoreFault::Unavailable);
         }
-        let done = self.store.write_clock(clock);
+        let done = self.store.write_meta(meta);
         self.failed = done.is_err();
         done
     }

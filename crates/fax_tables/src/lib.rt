@@ -23,7 +23,7 @@ pub use jobs::{
     brief_in, briefs_in, dial_at, dial_in, is_over_phase, job_in, killtime_number, phase_number,
     spelling, wish_number,
 };
-pub use meta::{Meta, PAST_GRANTS, PAST_JOBS, is_version};
+pub use meta::{Meta, is_version};
 pub use prospect::{Prospect, prospect_in};
 pub use replies::{Kept, is_kept_status, number_value};
 pub use row::{name_at, number_at, small_at, text_at, value_at};

@@ -1,4 +1,4 @@
-use Rattle.std.proofs.Common.{sym, ap, option_map, ◌∙◌}
+use Rattle.std.proofs.Common.{refl, sym, ap, option_map, ◌∙◌}
 use Rattle.fax_core.specs.Job.{job_of}
 use Rattle.fax_decide.specs.Decision.{Decides}
 use Rattle.fax_decide.specs.Fault.{OrNoAnswer}
@@ -22,7 +22,7 @@ pub returns-in-None : goal.returns-in-None
 returns-in-None g c = goes_on (both c.in_ok-number.ensures c.in_ok-job.ensures.found) (λ m k at calls sound next.
     let s = settings_of c.args.office.now.setup c.args.office.now.controls in
     rw (← (sym (ap (option_map (λ f. job_of f)) c.in-None.is) ∙ calls.1 s c.args.t c.args.modem sound (calls.0 sound)))
-    (taken_or Nothing _ _ c.answered.result _ c.take.ensures c.answered.ensures (nothing_taken m c.args.t NoneToSend)))
+    (taken_or Nothing _ _ c.answered.result _ c.take.ensures c.answered.ensures (λ r. nothing_taken m c.args.t NoneToSend r refl)))
 
 pub returns-in_err-job : goal.returns-in_err-job
 returns-in_err-job g c =

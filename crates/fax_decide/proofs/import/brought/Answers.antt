@@ -1,4 +1,4 @@
-use Rattle.std.proofs.Common.{ℕ, sym, subst}
+use Rattle.std.proofs.Common.{refl, ℕ, sym, subst}
 use Rattle.fax_core.specs.Ageing.{aged}
 use Rattle.fax_core.specs.Job.{job_of}
 use Rattle.fax_core.specs.Machine.{with_new_job}
@@ -16,9 +16,9 @@ pub returns : goal.returns
 returns g c =
     let t = c.args.t in
     let f = c.args.job in
-    let effect = NewJob f c.args.meta in
+    let effect = NewJob f in
     takes effect c.told-reply.result _ c.take.ensures c.told-reply.ensures.consults
-    (λ m told rule sound these next. taken_or effect _ _ c.told-reply.result _ c.take.ensures told (λ r told.
+    (λ m told rule sound next. taken_or effect _ _ c.told-reply.result _ c.take.ensures told (λ r told.
     subst (λ (n : ℕ). IsTaken (Taken (with_new_job (job_of f) (aged t m)) (Brought f.job n)) m t effect r)
     (sym (state_new (settings_of c.args.office.now.setup c.args.office.now.controls) m t (job_of f) sound))
-    (new_taken m t f c.args.meta _ r sound these next (job_within f c.told-reply.ensures.lawful).1 told)))
+    (new_taken m t f _ r sound next (job_within f c.told-reply.ensures.lawful).1 refl told)))

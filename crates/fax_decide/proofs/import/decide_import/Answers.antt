@@ -36,7 +36,7 @@ returns-in-Ok g c = decides (gives c.brought.ensures (λ m k at brought sound th
     let is = recorded_ok (bring c.args.import here m.next_job c.args.office.now.setup.max_jobs c.args.t) (job_of c.in-Ok.job)
     (rw (c.in_ok-rule.ensures, these, c.max_jobs.ensures.number) at (c.in-Ok.ensures hours)) in
     both_sides c.brought.result _ (subst (λ r. OrNoAnswer c.brought.result (Decides (brought_in s (aged c.args.t m) c.args.t here r) m c.args.t)) (sym is)
-    (brought here sound these (bring_counts c.args.import here m.next_job _ c.args.t (job_of c.in-Ok.job) is).number))))
+    (brought here sound (bring_counts c.args.import here m.next_job _ c.args.t (job_of c.in-Ok.job) is).number))))
 
 pub returns-in-Err : goal.returns-in-Err
 returns-in-Err g c = decides (goes_on no_call (λ m k at none sound these.

@@ -23,6 +23,8 @@ returns c m t =
     taken_or (effect.Marked c.args.modem c.args.down) _ _ c.answered-reply.result _ c.take.ensures c.answered-reply.ensures (λ r told. record {
       suits = _;
       within = tt;
+      left = tt;
+      given = refl;
       told = Marked c.args.down;
       taken = (rw there) ∙ ap (λ (n : Queue). Taken n (Marked c.args.down)) (with_mark_aged c.args.modem c.args.down t m);
       replied = told;

@@ -31,7 +31,7 @@ returns-in-Ok c m sound these =
     let is = recorded_ok (submit c.args.order here m.next_job c.args.office.now.setup.max_jobs c.args.t) (job_of c.in-Ok.job)
     (rw (c.in_ok-rule.ensures, these, c.max_jobs.ensures.number) at (c.in-Ok.ensures hours)) in
     both_sides c.taken.result _ (subst (λ r. OrNoAnswer c.taken.result (Decides (submitted (aged c.args.t m) here r) m c.args.t)) (sym is)
-    (c.taken.ensures m c.args.t here sound these (sym (ap (λ (j : Job). j.number) (submit_is c.args.order here m.next_job _ c.args.t (job_of c.in-Ok.job) is)))))
+    (c.taken.ensures m c.args.t here sound (sym (ap (λ (j : Job). j.number) (submit_is c.args.order here m.next_job _ c.args.t (job_of c.in-Ok.job) is)))))
 
 pub returns-in-Err : goal.returns-in-Err
 returns-in-Err c m sound these =

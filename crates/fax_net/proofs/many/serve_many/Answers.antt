@@ -10,4 +10,4 @@ returns-then-are_free g c =
 
 pub loop-preserved : goal.loop-preserved
 loop-preserved g c =
-    serving_next g.P.Peers.did (replying g.H.Handler.answers g.H.Handler.together) g.H.Handler.over _ _ _ _ _ _ _ _ _ c.loop.invariant _ _ _ _ _ _ _ _ _ (sym c.is_over.ensures ∙ c.if-is_over.false) c.look.ensures c.answer_ready.ensures c.serve_round-is_busy.ensures
+    serving_next g.P.Peers.did (replying g.H.Handler.answers g.H.Handler.together) g.H.Handler.over _ _ _ _ _ _ _ _ _ c.loop.invariant _ _ _ _ _ _ _ _ _ _ (sym c.is_over.ensures ∙ c.if-is_over.false) c.look.ensures c.answer_ready-held_back.ensures c.serve_round-is_busy.ensures

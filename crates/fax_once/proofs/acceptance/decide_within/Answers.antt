@@ -22,8 +22,8 @@ returns-then-check g c =
       goes_on = on_each result on;
       keeps = looks_keep g.S.Store old new c.requires c.check.ensures.same_reference looks fails;
       opens = opens_by (within g.S.Store old) (within g.S.Store new) old.failed result c.requires looks.clean (subst (λ store. OnOk result (StaysOpen (within g.S.Store old) (shown g.S.Store store))) (sym same) looked.opens);
-      decided = λ m₀ m k₀ k sound works known serves read.
-          looked.decided m k sound (looks_now g.S.Store old new c.requires c.check.ensures.same_reference looks fails m₀ m k₀ k works) known (here serves) read;
+      decided = λ m₀ tables m k₀ k sound works known serves read.
+          looked.decided tables m k sound (looks_now g.S.Store old new c.requires c.check.ensures.same_reference looks fails m₀ tables k₀ k works) known (here serves) read;
     }
 
 pub returns-else-check : goal.returns-else-check
@@ -40,5 +40,5 @@ returns-else-check g c =
       goes_on = tt;
       keeps = looks_keep g.S.Store old new c.requires c.check.ensures.same_reference looks fails;
       opens = tt;
-      decided = λ m₀ m k₀ k sound works known serves read. refl;
+      decided = λ m₀ tables m k₀ k sound works known serves read. refl;
     }

@@ -7,9 +7,10 @@ use Rattle.fax_store.specs.Calls.{within}
 use Rattle.fax_run.specs.Run.{Start, end_of}
 use Rattle.fax_run.specs.declared.arrival.Arrival.{Arrival}
 use Rattle.fax_once.proofs.AnsweringLemmas.{active_serves, no_answer}
-use Rattle.fax_once.proofs.BatchLemmas.{goes_end, goes_within, here_sound, runs_at_first}
-use Rattle.fax_once.specs.Batch.{RunsWithin, is_accepted, reply_in}
-use Rattle.fax_once.specs.Known.{Holds}
+use Rattle.fax_once.proofs.BatchLemmas.{goes_within, here_sound, runs_at_first}
+use Rattle.fax_once.proofs.CauseLemmas.{gave_out_none}
+use Rattle.fax_once.specs.Batch.{MeansEnd, RunsWithin, is_accepted, reply_in}
+use Rattle.fax_once.specs.Known.{LeadsTo}
 use Rattle.fax_once.proofs.batch.answer_each.Goals as goal
 
 pub loop-arrival-init : goal.loop-arrival-init
@@ -22,8 +23,8 @@ loop-arrival-init g c = record {
       let s = settings_of c.args.office.now.setup c.args.office.now.controls in
       let start : Start = record { queue = m; kept = k } in
       let work = c.args.work.now in
-      subst (λ (rs : List Response). (runs : RunsWithin s start [] rs false (within g.S.Store work) work.failed) × Holds c.nothing-known.result (end_of s start runs.heard).queue) (sym c.requires.none)
-      (runs_at_first s start (within g.S.Store work) work.failed (works serves), c.nothing-known.ensures m);
+      subst (λ (rs : List Response). (runs : RunsWithin s start [] rs false) × LeadsTo c.nothing-known.result (within g.S.Store work) work.failed m k (end_of s start runs.heard)) (sym c.requires.none)
+      (runs_at_first s start, (m, c.nothing-known.ensures m, works serves));
 }
 
 pub loop-arrival-preserved : goal.loop-arrival-preserved
@@ -31,8 +32,6 @@ loop-arrival-preserved g c =
     let i = c.loop-arrival.arrival-index in
     let here = c.loop-arrival.invariant in
     let answers = c.in_ok-answered.ensures in
-    let old = c.args.work.now in
-    let mid = c.loop-arrival.work in
     let new = c.answer_within.new.work in
     let a = c.arrival-item.result in
     let x = c.in_ok-answered.answered in
@@ -47,37 +46,53 @@ loop-arrival-preserved g c =
           let start : Start = record { queue = m; kept = k } in
           let front = take i c.args.arrivals.now in
           let replies = c.loop-arrival.replies.items in
-          let (runs, known) = here.ran m k sound works (answers.leaves.served serves) in
-          let comes = answers.comes m _ k _ (here_sound s start front replies c.loop-arrival.has_accepted (within g.S.Store mid) mid.failed runs sound) (λ _. runs.under) known serves in
-          let on = goes_within s start front replies c.loop-arrival.has_accepted (within g.S.Store mid) mid.failed runs a x (within g.S.Store new) new.failed comes.0 comes.1 comes.2 comes.4 in
-          let ends = goes_end s start front replies c.loop-arrival.has_accepted (within g.S.Store mid) mid.failed runs a x (within g.S.Store new) new.failed comes.0 comes.1 comes.2 comes.4 in
-          let known_on = subst (λ (e : Start). Holds c.answer_within.new.known e.queue) (sym ends) comes.3 in
+          let has = c.loop-arrival.has_accepted in
+          let (runs, there) = here.ran m k sound works (answers.leaves.served serves) in
+          let comes = answers.comes m there.0 _ k _ (here_sound s start front replies has runs sound) (λ _. there.2) there.1 serves in
+          let on = goes_within s start front replies has runs a x comes.0 comes.1 comes.2 in
+          let Leads = LeadsTo c.answer_within.new.known (within g.S.Store new) new.failed m k in
           let low : i < length c.args.arrivals.now = search rules in
           let seen : take (i + 1) c.args.arrivals.now ≡ front ++ a ∷ [] = take_more c.args.arrivals.now i a low ∙ ap (λ (b : Arrival). front ++ b ∷ []) (sym c.arrival-item.is) in
           let flag : c.is_accepted-has_accepted.result ≡ is_accepted x = c.is_accepted-has_accepted.ensures in
-          let has = c.loop-arrival.has_accepted in
-          let now = within g.S.Store new in
-          let Runs = λ (arrivals : List Arrival) (rs : List Response) (b : Bool). (runs : RunsWithin s start arrivals rs (has || b) now new.failed) × Holds c.answer_within.new.known (end_of s start runs.heard).queue in
+          let Runs = λ (arrivals : List Arrival) (rs : List Response) (b : Bool). (runs : RunsWithin s start arrivals rs (has || b)) × Leads (end_of s start runs.heard) in
           subst (λ (arrivals : List Arrival). Runs arrivals c.push.new.self.items c.is_accepted-has_accepted.result) (sym seen)
           (subst (λ (rs : List Response). Runs (front ++ a ∷ []) rs c.is_accepted-has_accepted.result) (sym told)
-          (subst (λ (b : Bool). Runs (front ++ a ∷ []) (replies ++ reply_in x ∷ []) b) (sym flag) (on, known_on)));
+          (subst (λ (b : Bool). Runs (front ++ a ∷ []) (replies ++ reply_in x ∷ []) b) (sym flag) (on.0, subst Leads (sym on.1) comes.3)));
     }
 
 pub returns : goal.returns
 returns g c =
     let here = c.loop-arrival.invariant in
+    let settles = c.in_ok-settle.ensures in
+    let on = settles.goes_on here.on in
     record {
-      leaves = here.leaves;
-      goes_on = here.on;
-      opens = here.opens;
+      leaves = follows_then g.S.Store _ _ _ here.leaves settles.leaves;
+      goes_on = on;
+      opens = λ active clean. active_serves _ _ on (settles.leaves.crash (here.leaves.crash active).0).0 clean;
       as_many = search rules;
       ran = λ m k sound works serves.
           let all : length c.args.arrivals.now ≤ c.loop-arrival.arrival-index = search rules in
           let s = settings_of c.args.office.now.setup c.args.office.now.controls in
           let start : Start = record { queue = m; kept = k } in
-          let work = c.loop-arrival.work in
-          subst (λ (arrivals : List Arrival). RunsWithin s start arrivals c.loop-arrival.replies.items c.loop-arrival.has_accepted (within g.S.Store work) work.failed)
-          (take_all c.loop-arrival.arrival-index c.args.arrivals.now all) (here.ran m k sound works serves).0;
+          let work = c.settle.new.work in
+          let (runs, there) = here.ran m k sound works (settles.leaves.served serves) in
+          subst (λ (arrivals : List Arrival). (runs : RunsWithin s start arrivals c.loop-arrival.replies.items c.loop-arrival.has_accepted) × MeansEnd s start runs.heard (within g.S.Store work) work.failed)
+          (take_all c.loop-arrival.arrival-index c.args.arrivals.now all) (runs, settles.settled m there.0 _ k _ (λ _. there.2) there.1 serves);
+    }
+
+pub returns-in_err-settle : goal.returns-in_err-settle
+returns-in_err-settle g c =
+    let here = c.loop-arrival.invariant in
+    let settles = c.in_err-settle.ensures in
+    let given = c.from_residual-in_err-settle in
+    record {
+      leaves = follows_then g.S.Store _ _ _ here.leaves settles.leaves;
+      goes_on = search rules;
+      opens = search rules;
+      as_many = search rules;
+      ran = λ m k sound works serves.
+          let (runs, there) = here.ran m k sound works (settles.leaves.served serves) in
+          gave_out_none given.result c.in_err-settle.field-0.0 given.ensures.1 settles.cause _ (_, _, settles.settled m there.0 _ k _ (λ _. there.2) there.1 serves);
     }
 
 pub returns-in_err-answered : goal.returns-in_err-answered
@@ -85,7 +100,6 @@ returns-in_err-answered g c =
     let here = c.loop-arrival.invariant in
     let given = c.from_residual in
     let answers = c.in_err-answered.ensures in
-    let mid = c.loop-arrival.work in
     record {
       leaves = follows_then g.S.Store _ _ _ here.leaves answers.leaves;
       goes_on = search rules;
@@ -95,16 +109,15 @@ returns-in_err-answered g c =
           let s = settings_of c.args.office.now.setup c.args.office.now.controls in
           let start : Start = record { queue = m; kept = k } in
           let front = take c.loop-arrival.arrival-index c.args.arrivals.now in
-          let (runs, known) = here.ran m k sound works (answers.leaves.served serves) in
-          let comes = answers.comes m _ k _ (here_sound s start front c.loop-arrival.replies.items c.loop-arrival.has_accepted (within g.S.Store mid) mid.failed runs sound) (λ _. runs.under) known serves in
-          no_answer given.result c.in_err-answered.field-0.0 _ given.ensures.1 comes.0 (_, _, comes.1);
+          let (runs, there) = here.ran m k sound works (answers.leaves.served serves) in
+          let comes = answers.comes m there.0 _ k _ (here_sound s start front c.loop-arrival.replies.items c.loop-arrival.has_accepted runs sound) (λ _. there.2) there.1 serves in
+          no_answer given.result c.in_err-answered.field-0.0 _ given.ensures.1 comes.0 comes.1;
     }
 
 pub returns-in-Err : goal.returns-in-Err
 returns-in-Err g c =
     let here = c.loop-arrival.invariant in
     let answers = c.in_ok-answered.ensures in
-    let mid = c.loop-arrival.work in
     record {
       leaves = follows_then g.S.Store _ _ _ here.leaves answers.leaves;
       goes_on = tt;
@@ -114,7 +127,7 @@ returns-in-Err g c =
           let s = settings_of c.args.office.now.setup c.args.office.now.controls in
           let start : Start = record { queue = m; kept = k } in
           let front = take c.loop-arrival.arrival-index c.args.arrivals.now in
-          let (runs, known) = here.ran m k sound works (answers.leaves.served serves) in
-          let comes = answers.comes m _ k _ (here_sound s start front c.loop-arrival.replies.items c.loop-arrival.has_accepted (within g.S.Store mid) mid.failed runs sound) (λ _. runs.under) known serves in
-          (search rules, (_, _, comes.4));
+          let (runs, there) = here.ran m k sound works (answers.leaves.served serves) in
+          let comes = answers.comes m there.0 _ k _ (here_sound s start front c.loop-arrival.replies.items c.loop-arrival.has_accepted runs sound) (λ _. there.2) there.1 serves in
+          (search rules, (comes.3.0, _, comes.3.2));
     }

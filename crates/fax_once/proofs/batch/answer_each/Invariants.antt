@@ -9,7 +9,7 @@ use Rattle.fax_store.specs.Store.{Serves}
 use Rattle.fax_store.specs.Work.{IsActive, Works}
 use Rattle.fax_run.specs.Run.{end_of}
 use Rattle.fax_once.specs.Batch.{RunsWithin}
-use Rattle.fax_once.specs.Known.{Holds}
+use Rattle.fax_once.specs.Known.{LeadsTo}
 use Rattle.fax_once.proofs.batch.answer_each.Given as goal
 
 -- the arrivals so far are answered
@@ -20,7 +20,6 @@ invariant-loop-arrival g l = record {
   as_many : length l.replies.items ≡ l.arrival-index;
   opens : IsActive (within g.S.Store l.initial.work) l.initial.work.failed → HasCleanDisk (within g.S.Store l.work) → Serves (within g.S.Store l.work);
   ran : (m : Queue) (k : Ledger) → Sound m → Works (within g.S.Store l.initial.work) l.initial.work.failed m k m k → Serves (within g.S.Store l.work)
-      → (runs : RunsWithin (settings_of l.office.setup l.office.controls) (record { queue = m; kept = k }) (take l.arrival-index l.arrivals) l.replies.items l.has_accepted
-      (within g.S.Store l.work) l.work.failed)
-      × Holds l.known (end_of (settings_of l.office.setup l.office.controls) (record { queue = m; kept = k }) runs.heard).queue;
+      → (runs : RunsWithin (settings_of l.office.setup l.office.controls) (record { queue = m; kept = k }) (take l.arrival-index l.arrivals) l.replies.items l.has_accepted)
+      × LeadsTo l.known (within g.S.Store l.work) l.work.failed m k (end_of (settings_of l.office.setup l.office.controls) (record { queue = m; kept = k }) runs.heard);
 }

@@ -63,9 +63,9 @@ returns-in-Ok g c =
       ended = λ m k sound means clean.
           let start : Start = record { queue = m; kept = k } in
           let serves = ended.opens clean in
-          let runs = answers.ran m k sound (begun.begun m k means) (ended.served serves) in
-          committed_stops s start c.args.arrivals.now c.answer_each.new.replies.items c.in_ok-answer_each.field-0 (within g.S.Store work) work.failed runs old new
-          (ended.committed m _ k _ (λ _. runs.under)) serves
+          let (runs, under) = answers.ran m k sound (begun.begun m k means) (ended.served serves) in
+          committed_stops s start c.args.arrivals.now c.answer_each.new.replies.items c.in_ok-answer_each.field-0 runs old new
+          (ended.committed m _ k _ (λ _. under)) serves
           (λ at found leaves. g.met.S.Store.settled c.commit.new.self.0.conn.store found at.is_open leaves);
     })
 
@@ -86,9 +86,9 @@ returns-in-Err g c =
           let start : Start = record { queue = m; kept = k } in
           let tables = has_tables old m k means in
           let runs = λ (clean : HasCleanDisk new). answers.ran m k sound (begun.begun m k means) (answers.opens (begun.opens.0 tables) (ended.clean clean)) in (
-            λ serves. ended.undone m _ k _ (λ _. (runs serves.clean).under) serves,
+            λ serves. ended.undone m _ k _ (λ _. (runs serves.clean).1) serves,
             λ found may.
-                asked_to_commit s start c.args.arrivals.now c.answer_each.new.replies.items c.in_ok-answer_each.field-0 (within g.S.Store work) work.failed (runs may.0) old _ new _
+                asked_to_commit s start c.args.arrivals.now c.answer_each.new.replies.items c.in_ok-answer_each.field-0 (runs may.0).0 old _ (within g.S.Store work) new _ work.failed (runs may.0).1
                 begun.opens tables answers.leaves.crash ended.crash found may,
           );
     })
@@ -110,7 +110,7 @@ returns-then-not-branch g c =
       ended = λ m k sound means clean.
           let start : Start = record { queue = m; kept = k } in
           let tables = has_tables old m k means in
-          let runs = answers.ran m k sound (begun.begun m k means) (answers.opens (begun.opens.0 tables) (dropped.clean clean)) in
-          still_stops s start c.args.arrivals.now c.answer_each.new.replies.items c.in_ok-answer_each.field-0 (within g.S.Store work) work.failed runs old new none
-          (dropped.undone m _ k _ (λ _. runs.under)) (dropped_stops old _ _ new _ _ begun.opens tables answers.leaves.crash dropped.crash);
+          let (runs, under) = answers.ran m k sound (begun.begun m k means) (answers.opens (begun.opens.0 tables) (dropped.clean clean)) in
+          still_stops s start c.args.arrivals.now c.answer_each.new.replies.items c.in_ok-answer_each.field-0 runs old new none
+          (dropped.undone m _ k _ (λ _. under)) (dropped_stops old _ _ new _ _ begun.opens tables answers.leaves.crash dropped.crash);
     })

@@ -28,10 +28,10 @@ returns-then-check g c =
       opens = opens_by (within g.S.Store old) (within g.S.Store new) old.failed result c.requires looks.clean
           (subst (λ store. OnOk result (StaysOpen (within g.S.Store old) (shown g.S.Store store))) (sym same) looked.opens);
       fresh = subst (λ store. IfOk result (IsFresh a (shown g.S.Store store))) (sym same) looked.fresh;
-      found = λ m₀ m k₀ k sound works serves.
-          let means = looks_now g.S.Store old new c.requires c.check.ensures.same_reference looks fails m₀ m k₀ k works in
-          found_or_none result _ (subst (λ store. IfOk result (IsFound s a m k (shown g.S.Store store))) (sym same) (looked.found m k sound means (here serves).clean))
-          (looked.cause m k sound means (here serves));
+      found = λ m₀ tables m k₀ k sound sees works serves.
+          let means = looks_now g.S.Store old new c.requires c.check.ensures.same_reference looks fails m₀ tables k₀ k works in
+          found_or_none result _ (subst (λ store. IfOk result (IsFound s a m k (shown g.S.Store store))) (sym same) (looked.found tables m k sound sees means (here serves).clean))
+          (looked.cause tables m k sound sees means (here serves));
       keeps = looks_keep g.S.Store old new c.requires c.check.ensures.same_reference looks fails;
     }
 
@@ -50,6 +50,6 @@ returns g c =
       goes_on = tt;
       opens = tt;
       fresh = tt;
-      found = λ m₀ m k₀ k sound works serves. refl;
+      found = λ m₀ tables m k₀ k sound sees works serves. refl;
       keeps = looks_keep g.S.Store old new c.requires c.check.ensures.same_reference looks fails;
     }

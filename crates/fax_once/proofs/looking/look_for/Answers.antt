@@ -10,7 +10,7 @@ use Rattle.fax_run.specs.View.{view}
 use Rattle.fax_store.proofs.FrameLemmas.{looks_as, looks_at, looks_stop}
 use Rattle.fax_once.proofs.CauseLemmas.{ask_read}
 use Rattle.fax_once.proofs.GetLemmas.{no_step}
-use Rattle.fax_once.proofs.LookingLemmas.{found_by, fresh_by, none_found, stays_open_by}
+use Rattle.fax_once.proofs.LookingLemmas.{found_by, fresh_by, none_found, stays_open_by, submits_job, view_means}
 use Rattle.fax_once.proofs.RequestLemmas.{is_post, sender_verdict, view_verdict}
 use Rattle.fax_once.proofs.SenderLemmas.{its_floor, its_reply, sender_plain}
 use Rattle.fax_once.proofs.looking.look_for.Goals as goal
@@ -25,9 +25,11 @@ returns-in_err-reply-in-View g c =
       seen = λ get is. none_found given.result _ given.ensures.0;
       used = λ db ours now clean used. none_found given.result _ given.ensures.0;
       given = λ db ours now clean up. none_found given.result _ given.ensures.0;
-      found = λ asks m k sound means clean. none_found given.result _ given.ensures.0;
-      cause = λ m k sound means serves.
-          only_no_answer given.result (λ _. ⊤) (passed_on given.result c.in_err-reply-in-View.field-0.0 (λ _. ⊤) given.ensures.1 (c.in_err-reply-in-View.ensures.seen m k sound means serves));
+      found = λ asks tables m k sound sees means clean. none_found given.result _ given.ensures.0;
+      cause = λ asks tables m k sound sees means serves.
+          let a = c.args.arrival.now in
+          only_no_answer given.result (λ _. ⊤) (passed_on given.result c.in_err-reply-in-View.field-0.0 (λ _. ⊤) given.ensures.1
+          (c.in_err-reply-in-View.ensures.seen m k sound (view_means a c.in-View.view tables m k _ (subst (IsAsk a.method a.path.now a.body.now) c.in-View.is asks.is) sees means) serves));
     }
 
 pub returns-in-Ok : goal.returns-in-Ok
@@ -47,19 +49,19 @@ returns-in-Ok g c =
         from = from;
         lawful = subst IsLawful c.in-Step.is asks.lawful;
         read = ask_read a.method a.path.now a.body.now step (subst its c.in-Step.is asks.is);
-      }) look.opens look.own;
+      }) look.opens (submits_job a step (subst its c.in-Step.is asks.is)) look.own;
       seen = λ get is. absurd (no_step a.method a.path.now a.body.now step get (subst its c.in-Step.is is));
       used = λ db ours now clean used. look.used db ours now clean (its_reply a sender db from used);
       given = λ db ours now clean up. look.given db ours now clean (its_floor a sender db from up);
-      found = λ asks m k sound means clean.
+      found = λ asks tables m k sound sees means clean.
           let s = settings_of c.args.office.now.setup c.args.office.now.controls in
           found_by a sender step new c.look_for_reply.result s m k (is_post s a m k sender c.args.ask step asks.is c.in-Step.is from) look.own
           (look.found (record {
             from = from;
             lawful = subst IsLawful c.in-Step.is asks.lawful;
             read = ask_read a.method a.path.now a.body.now step (subst its c.in-Step.is asks.is);
-          }) s m k sound means clean);
-      cause = look.cause;
+          }) s tables m k sound sees means clean);
+      cause = λ asks. look.cause;
     }
 
 pub returns-in-Err : goal.returns-in-Err
@@ -70,14 +72,14 @@ returns-in-Err g c = record {
   seen = λ get is. tt;
   used = λ db ours now clean used. tt;
   given = λ db ours now clean up. tt;
-  found = λ asks m k sound means clean.
+  found = λ asks tables m k sound sees means clean.
       let s = settings_of c.args.office.now.setup c.args.office.now.controls in
       let refusal = c.in-Err.refusal in (
         denied refusal,
         sender_verdict s c.args.arrival.now m k c.args.ask c.in-Step.step refusal asks.is c.in-Step.is c.in-Err.ensures.refused,
         inl (ap (λ r. Told r) (sym c.refused.ensures)),
       );
-  cause = λ m k sound means serves. tt;
+  cause = λ asks tables m k sound sees means serves. tt;
 }
 
 pub refused-requires : goal.refused-requires
@@ -93,12 +95,12 @@ returns-in_ok-reply-in-View g c =
       seen = λ get is. tt;
       used = λ db ours now clean used. tt;
       given = λ db ours now clean up. tt;
-      found = λ asks m k sound means clean.
+      found = λ asks tables m k sound sees means clean.
           let s = settings_of c.args.office.now.setup c.args.office.now.controls in
           let a = c.args.arrival.now in (
             Told (view s m (decided_at m.clock a.moment) c.in-View.view),
             view_verdict s a m k c.args.ask c.in-View.view asks.is c.in-View.is,
-            inl (ap (λ r. Told r) (sym (see.seen m k sound means (see.opens clean)))),
+            inl (ap (λ r. Told r) (sym (see.seen m k sound (view_means a c.in-View.view tables m k _ (subst (IsAsk a.method a.path.now a.body.now) c.in-View.is asks.is) sees means) (see.opens clean)))),
           );
-      cause = λ m k sound means serves. tt;
+      cause = λ asks tables m k sound sees means serves. tt;
     }

@@ -20,8 +20,8 @@ returns-in_err-floor g c =
       own = none_found given.result _ given.ensures.0;
       used = λ db ours now clean used. none_found given.result _ given.ensures.0;
       given = λ db ours now clean up. none_found given.result _ given.ensures.0;
-      found = λ asks s m k sound means clean. none_found given.result _ given.ensures.0;
-      cause = λ m k sound means serves. gave_out given.result c.in_err-floor.field-0.0 given.ensures.1 (c.in_err-floor.ensures.answers m k means serves);
+      found = λ asks s tables m k sound sees means clean. none_found given.result _ given.ensures.0;
+      cause = λ tables m k sound sees means serves. gave_out given.result c.in_err-floor.field-0.0 given.ensures.1 (c.in_err-floor.ensures.answers tables k means serves);
     }
 
 pub returns-then-get-floor : goal.returns-then-get-floor
@@ -31,11 +31,11 @@ returns-then-get-floor g c = record {
   own = tt;
   used = λ db ours now clean used. tt;
   given = λ db ours now clean up. tt;
-  found = λ asks s m k sound means clean.
+  found = λ asks s tables m k sound sees means clean.
       let through : c.args.sender.now.number ≤ c.in_ok-floor.floor = search rules in
       inl (sym (given_up_is s c.args.arrival.now m k c.in_ok-floor.floor c.args.sender.now c.args.ask asks.from
-      (c.in_ok-floor.ensures.answers m k means (c.in_ok-floor.ensures.leaves.opens clean)) through) ∙ ap (λ r. Told r) (sym c.refused.ensures));
-  cause = λ m k sound means serves. tt;
+      (c.in_ok-floor.ensures.answers tables k means (c.in_ok-floor.ensures.leaves.opens clean)) through) ∙ ap (λ r. Told r) (sym c.refused.ensures));
+  cause = λ tables m k sound sees means serves. tt;
 }
 
 pub returns-in_err-kept : goal.returns-in_err-kept
@@ -48,9 +48,9 @@ returns-in_err-kept g c =
       own = none_found given.result _ given.ensures.0;
       used = λ db ours now clean used. none_found given.result _ given.ensures.0;
       given = λ db ours now clean up. none_found given.result _ given.ensures.0;
-      found = λ asks s m k sound means clean. none_found given.result _ given.ensures.0;
-      cause = λ m k sound means serves. gave_out given.result c.in_err-kept.field-0.0 given.ensures.1
-          (c.in_err-kept.ensures.answers m k (means_on g.S.Store first m k means) serves);
+      found = λ asks s tables m k sound sees means clean. none_found given.result _ given.ensures.0;
+      cause = λ tables m k sound sees means serves. gave_out given.result c.in_err-kept.field-0.0 given.ensures.1
+          (c.in_err-kept.ensures.answers tables k (means_on g.S.Store first tables k means) serves);
     }
 
 pub returns-in-Some : goal.returns-in-Some
@@ -62,7 +62,7 @@ returns-in-Some g c =
       own = tt;
       used = λ db ours now clean used. tt;
       given = λ db ours now clean up. tt;
-      found = λ asks s m k sound means clean.
+      found = λ asks s tables m k sound sees means clean.
           let a = c.args.arrival.now in
           let sender = c.args.sender.now in
           let floor = c.in_ok-floor.floor in
@@ -70,11 +70,11 @@ returns-in-Some g c =
           let above : floor < sender.number = search rules in
           let serves = c.in_ok-kept.ensures.leaves.opens clean in
           let found = subst (IsKeptFor k.replies sender.client.now sender.number) c.in-Some.is
-          (c.in_ok-kept.ensures.answers m k (means_on g.S.Store first m k means) serves) in
+          (c.in_ok-kept.ensures.answers tables k (means_on g.S.Store first tables k means) serves) in
           subst (IsTold c.repeat.result now)
-          (above_is s a m k floor sender c.args.ask asks.from (c.in_ok-floor.ensures.answers m k means (c.kept.ensures.leaves.served serves)) above)
+          (above_is s a m k floor sender c.args.ask asks.from (c.in_ok-floor.ensures.answers tables k means (c.kept.ensures.leaves.served serves)) above)
           (repeated_told s a m k floor sender c.args.ask c.in-Some.kept found.0 c.repeat.result now asks.from found.1 found.2 serves c.repeat.ensures);
-      cause = λ m k sound means serves. tt;
+      cause = λ tables m k sound sees means serves. tt;
     }
 
 pub returns-in-None : goal.returns-in-None
@@ -95,14 +95,14 @@ returns-in-None g c =
       given = λ db ours now clean up.
           let read = c.kept.ensures.leaves.served (opens clean) in
           absurd (given_not_above db sender.client.now sender.number floor (c.in_ok-floor.ensures.stands db ours now read.clean) up above);
-      found = λ asks s m k sound means clean.
+      found = λ asks s tables m k sound sees means clean.
           let a = c.args.arrival.now in
           let serves = opens clean in
           let unused = subst (IsKeptFor k.replies sender.client.now sender.number) c.in-None.is
-          (c.in_ok-kept.ensures.answers m k (means_on g.S.Store first m k means) serves) in (
+          (c.in_ok-kept.ensures.answers tables k (means_on g.S.Store first tables k means) serves) in (
             unused_is s a m k floor sender c.args.ask asks.from unused
-                ∙ above_is s a m k floor sender c.args.ask asks.from (c.in_ok-floor.ensures.answers m k means (c.kept.ensures.leaves.served serves)) above,
+                ∙ above_is s a m k floor sender c.args.ask asks.from (c.in_ok-floor.ensures.answers tables k means (c.kept.ensures.leaves.served serves)) above,
             unkept_by sender.client.now sender.number k.replies unused,
           );
-      cause = λ m k sound means serves. tt;
+      cause = λ tables m k sound sees means serves. tt;
     }

@@ -20,7 +20,7 @@ returns-in-Ok g c =
       used = look.used;
       given = look.given;
       found = look.found asks;
-      cause = look.cause;
+      cause = look.cause asks;
     }
 
 pub returns-in_err-refuse_ask-in-Err : goal.returns-in_err-refuse_ask-in-Err
@@ -33,8 +33,8 @@ returns-in_err-refuse_ask-in-Err g c =
       seen = λ get. none_found given.result _ given.ensures.0;
       used = λ db ours now clean used. none_found given.result _ given.ensures.0;
       given = λ db ours now clean up. none_found given.result _ given.ensures.0;
-      found = λ m k sound means clean. none_found given.result _ given.ensures.0;
-      cause = λ m k sound means serves.
+      found = λ tables m k sound sees means clean. none_found given.result _ given.ensures.0;
+      cause = λ tables m k sound sees means serves.
           only_no_answer given.result (λ _. ⊤) (passed_on given.result c.in_err-refuse_ask-in-Err.field-0.0 (λ _. ⊤) given.ensures.1 c.in_err-refuse_ask-in-Err.ensures.fault);
     }
 
@@ -46,8 +46,8 @@ returns-in_ok-refuse_ask-in-Err g c = record {
   seen = λ get. tt;
   used = λ db ours now clean used. tt;
   given = λ db ours now clean up. tt;
-  found = λ m k sound means clean.
+  found = λ tables m k sound sees means clean.
       let s = settings_of c.args.office.now.setup c.args.office.now.controls in
       (Told c.in_ok-refuse_ask-in-Err.field-0, c.in_ok-refuse_ask-in-Err.ensures.verdict s m k c.in-Err.ensures.refused, inl refl);
-  cause = λ m k sound means serves. tt;
+  cause = λ tables m k sound sees means serves. tt;
 }

@@ -1,25 +1,15 @@
-use Rattle.std.proofs.Common.{◌≡◌, ◌+◌, Some, ap, false, rules, subst, sym}
-use Rattle.fax_core.specs.Ageing.{is_past}
-use Rattle.fax_core.specs.Job.{job_of}
-use Rattle.fax_decide.specs.Effect.{Suits, accepted}
-use Rattle.fax_decide.specs.declared.effect.Effect.{Effect}
+use Rattle.std.proofs.Common.{◌≤◌, ap, rules}
 use Rattle.fax_store.specs.Job.{with_expired}
 use Rattle.fax_tables.specs.declared.meta.Meta.{Meta}
-use Rattle.fax_once.proofs.KnownLemmas.{aged_with_new}
-use Rattle.fax_once.specs.Known.{Holds}
-use Rattle.fax_once.specs.declared.known.Known.{Known}
+use Rattle.fax_value.specs.Limits.{last_moment}
+use Rattle.fax_once.proofs.KnownLemmas.{moved_stand}
 use Rattle.fax_once.proofs.known.Known.after.Goals as goal
 
-pub returns-in-NewJob : goal.returns-in-NewJob
-returns-in-NewJob c m suits =
-    let t = c.args.t in
-    let job = job_of c.in-NewJob.job in
-    let is_new : c.is_past.result ≡ false = search rules in
-    let off : is_past job.killtime t ≡ false = c.is_past.ensures is_new in
-    let knew = subst (λ (e : Effect). Suits e (with_expired t m)) c.in-NewJob.is suits in
-    let next : Meta → Meta = λ x. record { clock = t; next_job = x.next_job + 1; next_grant = x.next_grant } in
-    let known : Known = record { meta = Some (next c.in-NewJob.meta); aged = Some t } in
-    subst (λ (e : Effect). Holds known (accepted t e m)) (sym c.in-NewJob.is) (record {
-      meta = ap next knew;
-      aged = aged_with_new t job m off;
-    })
+pub returns : goal.returns
+returns c tables m knows was lawful left =
+    let now : c.args.t ≤ last_moment = search rules in
+    record {
+      numbers = moved_stand c.args.self.now.numbers c.args.t c.args.effect.now c.args.before c.numbered-after.result tables m knows.numbers now lawful was left
+          (c.numbered-after.ensures (with_expired c.args.t m) left (ap (λ (meta : Meta). meta.next_job) was) (ap (λ (meta : Meta). meta.next_grant) was)) _ c.moved.ensures;
+      aged = c.aged_after.ensures m;
+    }

@@ -1,4 +1,4 @@
-use Rattle.std.proofs.Common.{inl, inr, rules, subst}
+use Rattle.std.proofs.Common.{inl, inr, refl, rules, subst}
 use Rattle.std.specs.Prelude.{⊤}
 use Rattle.sqlite.specs.Held.{state}
 use Rattle.sqlite.specs.State.{HasCleanDisk}
@@ -37,7 +37,7 @@ pub returns-in_err-reply-clause-cause : goal.returns-in_err-reply-clause-cause
 returns-in_err-reply-clause-cause g c m k sound means serves =
     let given = c.from_residual in
     only_no_answer given.result (λ _. ⊤)
-    (passed_on given.result c.in_err-reply.field-0.0 (λ _. ⊤) given.ensures.1 (c.in_err-reply.ensures.cause m k sound (means_now means) serves))
+    (passed_on given.result c.in_err-reply.field-0.0 (λ _. ⊤) given.ensures.1 (c.in_err-reply.ensures.cause m m k sound (inl refl) (means_now means) serves))
 
 pub returns-in-Known-clause-leaves : goal.returns-in-Known-clause-leaves
 returns-in-Known-clause-leaves g c =
@@ -61,7 +61,7 @@ returns-in-Known-clause-answered g c m k sound means clean =
     let look = c.in_ok-reply.ensures in
     let new = state g.S.Store c.look_up.new.store.conn in
     let s = settings_of c.args.self.now.office.setup c.args.self.now.office.controls in
-    let found = subst (IsFound s c.args.arrival.now m k new) c.in-Known.is (look.found m k sound (means_now means) clean) in
+    let found = subst (IsFound s c.args.arrival.now m k new) c.in-Known.is (look.found m m k sound (inl refl) (means_now means) clean) in
     (found.0, found.1, told_leaves m k c.in-Known.reply new found.0 found.2 (means_stay look.leaves.served look.leaves.stays m k means))
 
 pub returns-in-New-clause-leaves : goal.returns-in-New-clause-leaves
@@ -98,7 +98,7 @@ returns-in-New-clause-crash g c m k sound means found may =
     let mid = state g.S.Store c.look_up.new.store.conn in
     let s = settings_of c.args.self.now.office.setup c.args.self.now.office.controls in
     let fresh = subst (IsFresh a mid) c.in-New.is look.fresh in
-    let finds = λ (clean : HasCleanDisk mid). subst (IsFound s a m k mid) c.in-New.is (look.found m k sound (means_now means) clean) in
+    let finds = λ (clean : HasCleanDisk mid). subst (IsFound s a m k mid) c.in-New.is (look.found m m k sound (inl refl) (means_now means) clean) in
     let comes = c.step_once.ensures.comes m k sound (means_stay look.leaves.served look.leaves.stays m k means) fresh.0
     (record { opens = fresh.2; unkept = λ serves. (finds serves.clean).1 }) in
     elim (comes.crash found may) [
@@ -113,7 +113,7 @@ returns-in-New-clause-answered g c m k sound means clean =
     let mid = state g.S.Store c.look_up.new.store.conn in
     let s = settings_of c.args.self.now.office.setup c.args.self.now.office.controls in
     let fresh = subst (IsFresh a mid) c.in-New.is look.fresh in
-    let finds = λ (clean : HasCleanDisk mid). subst (IsFound s a m k mid) c.in-New.is (look.found m k sound (means_now means) clean) in
+    let finds = λ (clean : HasCleanDisk mid). subst (IsFound s a m k mid) c.in-New.is (look.found m m k sound (inl refl) (means_now means) clean) in
     let comes = c.step_once.ensures.comes m k sound (means_stay look.leaves.served look.leaves.stays m k means) fresh.0
     (record { opens = fresh.2; unkept = λ serves. (finds serves.clean).1 }) in
     verdict_answers c.step_once.result s a m k _ (state g.S.Store c.step_once.new.self.store.conn) (finds (c.step_once.ensures.leaves.clean clean)).0 (comes.leaves clean)
@@ -125,6 +125,6 @@ returns-in-New-clause-cause g c m k sound means =
     let mid = state g.S.Store c.look_up.new.store.conn in
     let s = settings_of c.args.self.now.office.setup c.args.self.now.office.controls in
     let fresh = subst (IsFresh a mid) c.in-New.is look.fresh in
-    let finds = λ (clean : HasCleanDisk mid). subst (IsFound s a m k mid) c.in-New.is (look.found m k sound (means_now means) clean) in
+    let finds = λ (clean : HasCleanDisk mid). subst (IsFound s a m k mid) c.in-New.is (look.found m m k sound (inl refl) (means_now means) clean) in
     (c.step_once.ensures.comes m k sound (means_stay look.leaves.served look.leaves.stays m k means) fresh.0
     (record { opens = fresh.2; unkept = λ serves. (finds serves.clean).1 })).cause

@@ -2,7 +2,6 @@ use Rattle.std.proofs.Common.{◌≡◌, ◌∙◌, [], ◌∷◌, false, length
 use Rattle.std.proofs.lemmas.List.{nil_from_length}
 use Rattle.fax_core.specs.Queue.{Queue}
 use Rattle.fax_store.specs.Calls.{shown}
-use Rattle.fax_store.specs.Job.{with_failed_in}
 use Rattle.fax_store.specs.Times.{is_among, with_ends}
 use Rattle.fax_store.specs.Work.{IsUnderWay, Steps}
 use Rattle.fax_store.proofs.JobLemmas.{expired_by, none_expired}

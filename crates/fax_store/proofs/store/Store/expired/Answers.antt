@@ -3,7 +3,7 @@ use Rattle.sqlite.specs.Order.{Row}
 use Rattle.sqlite.specs.State.{Shown}
 use Rattle.fax_schema.specs.declared.statements.TheConstants.{SELECT_EXPIRED}
 use Rattle.fax_store.specs.Calls.{shown}
-use Rattle.fax_store.proofs.JobLemmas.{expired_params, expired_shown}
+use Rattle.fax_store.proofs.JobLemmas.{expired_shown}
 use Rattle.fax_store.proofs.FrameLemmas.{finds_as}
 use Rattle.fax_store.proofs.store.Store.expired.Goals as goal
 

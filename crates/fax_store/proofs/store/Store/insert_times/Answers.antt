@@ -1,7 +1,6 @@
-use Rattle.std.proofs.Common.{◌≡◌, ◌∙◌, ap, rules, subst}
+use Rattle.std.proofs.Common.{◌≡◌, rules, subst}
 use Rattle.fax_core.specs.Job.{job_of}
 use Rattle.fax_core.specs.Stamp.{came}
-use Rattle.fax_core.specs.Times.{has_ended}
 use Rattle.fax_job.specs.declared.job.JobFields.{JobFields}
 use Rattle.fax_store.specs.Calls.{WritesIf}
 use Rattle.fax_store.specs.Times.{IsUntimed, with_came}

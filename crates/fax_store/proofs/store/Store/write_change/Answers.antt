@@ -1,6 +1,6 @@
 use Rattle.std.proofs.Common.{◌≡◌, ◌∙◌, ap, sym, subst, true, false, [], ◌∷◌, Ok}
 use Rattle.std.proofs.Math.Path.{fun_ext}
-use Rattle.fax_core.specs.Job.{Job, job_of}
+use Rattle.fax_core.specs.Job.{job_of}
 use Rattle.fax_core.specs.Queue.{Queue}
 use Rattle.fax_core.specs.Times.{has_ended}
 use Rattle.fax_job.specs.declared.job.JobFields.{JobFields}

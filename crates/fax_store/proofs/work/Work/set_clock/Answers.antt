@@ -1,5 +1,0 @@
-use Rattle.fax_store.proofs.FrameLemmas.{makes_by}
-use Rattle.fax_store.proofs.work.Work.set_clock.Goals as goal
-
-pub returns : goal.returns
-returns g c = makes_by g.S.Store c.if-self.false c.is_err-self.ensures.value c.write_clock-done.ensures
