@@ -14,12 +14,12 @@ use Rattle.fax_decide.specs.declared.effect.Effect.{Effect}
 use Rattle.fax_decide.specs.declared.decision.Decision.{Decision}
 use Rattle.fax_decide.specs.declared.decision.Decision.TheVariants.{Taken, Refused}
 
--- through which number a reply says that the client has given up its replies
+-- through which number a reply states that the client has given up its replies
 abbrev pub given_told : machine.Reply → Option ℕ
 given_told (machine.Floored floor) = Some floor
 given_told told = None
 
--- The step is taken: with the times of its jobs it leaves what the effect makes of the queue at t, and its reply is this. What is written then is within its limits, and what is given up is told.
+-- The step is taken: with the times of its jobs it leaves what the effect makes of the queue at t, and its reply is this. What is written then is within its limits, and the reply states what is given up.
 pub record IsTaken (step : Step) (m : Queue) (t : ℕ) (effect : Effect) (reply : Response) : Type 0 where
   pub suits : Suits effect (with_expired t m)
   pub within : IsWithin effect

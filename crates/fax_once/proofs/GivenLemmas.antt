@@ -1,4 +1,4 @@
--- What is given up is told, and nothing else is told so.
+-- A reply states a floor exactly where replies are given up.
 use Rattle.std.proofs.Common.{◌≡◌, ◌∙◌, ℕ, Bool, true, false, not, List, Option, Some, None, Ok, Err, ap, refl, if◌then◌else◌}
 use Rattle.std.specs.Prelude.{⊤, Result, nat_lt}
 use Rattle.fax_job.specs.declared.refusal.Refusal.{Refusal}
@@ -20,7 +20,7 @@ use Rattle.fax_core.specs.declared.report.Report.TheVariants.{Call, Page, Outcom
 use Rattle.fax_decide.specs.Decision.{given_told}
 use Rattle.fax_run.specs.Verdict.{given_by}
 
--- the step tells of nothing that is given up
+-- the reply of the step states no floor
 abbrev IsPlain : Step → Type 0
 IsPlain (Taken after told) = given_told told ≡ None
 IsPlain (Refused e keys) = ⊤
@@ -84,12 +84,12 @@ of_grant s m t report (Some g) = of_on_both s m t report g (job_numbered g.job m
 of_purged : (m : Queue) (t before : ℕ) → IsPlain (purged m t before)
 of_purged m t before = of_both (nat_lt t before) _ _ tt refl
 
--- what is taken of such a step tells of nothing either
+-- nor does the reply to what is taken of such a step
 plain_told : (t : ℕ) (m : Queue) (step : Step) (q : Queue) (told : Reply) → IsPlain step → stamped t m step ≡ Taken q told → given_told told ≡ None
 plain_told t m (Taken after reply) q told plain is = let same : told ≡ reply = cc in ap given_told same ∙ plain
 plain_told t m (Refused e keys) q told plain is = absurd cc
 
--- what is given up is told
+-- the reply states what the request gives up
 pub given_as_told : (s : Settings) (m : Queue) (t : ℕ) (ask : Ask) (q : Queue) (told : Reply) → stamped t (aged t m) (act s (aged t m) t ask) ≡ Taken q told → given_told told ≡ given_by ask
 given_as_told s m t (Submission order) q told is = plain_told t (aged t m) _ q told (of_submitted (aged t m) _ _) is
 given_as_told s m t (Bring i) q told is = plain_told t (aged t m) _ q told (of_brought s (aged t m) t _ _) is

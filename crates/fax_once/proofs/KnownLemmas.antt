@@ -80,7 +80,7 @@ aged_with_new t j m off = one_more t j (map (aged_job t) m.jobs) (not_past t j o
 
 -- ---- the clock and the next numbers
 
--- an accepted change leaves a clock and next numbers that are lawful
+-- an accepted change leaves a valid clock and valid next numbers
 pub lawful_after : (t : ℕ) (effect : Effect) (m : Queue) → t ≤ last_moment → IsLawfulMeta m → IsNumberLeft effect (with_expired t m) → IsLawfulMeta (accepted t effect m)
 lawful_after t effect m now was left = subst IsLawfulMeta (sym (accepted_as t effect m)) (by effect left)
   where
@@ -156,7 +156,7 @@ writable_of numbers t effect tables m stand writable = record {
 pub aged_of : (numbers : Numbers) (t : ℕ) (tables m : Queue) → Stand numbers tables m → IsAged t m → IsAged t tables
 aged_of numbers t tables m stand aged = subst (λ (q : Queue). IsAged t q) (with_own numbers tables m stand) aged
 
--- and its numbers are lawful where theirs are
+-- and its numbers are valid where theirs are
 pub lawful_of : (numbers : Numbers) (tables m : Queue) → Stand numbers tables m → IsLawfulMeta tables → IsLawfulMeta m
 lawful_of Unread tables m is lawful = subst IsLawfulMeta is lawful
 lawful_of (Written meta) tables m (is, same) lawful = subst IsLawfulMeta is lawful

@@ -40,7 +40,7 @@ module _ {S : Type 0} (g : Ghosts S) where
     pub fails : OnErr result (new.failed ≡ true)
     -- What the work means becomes what f and h make of it.
     pub changes : BecomesWhere g old new P f h
-    -- Where Q holds of what the work means, they are refused for want of the store alone.
+    -- Where Q holds of what the work means, they are refused for lack of the store alone.
     pub cause : FailsOnly g old new result Q
 
   -- A request is accepted at t: its change is made within the work, and its reply is kept there.
@@ -54,6 +54,6 @@ module _ {S : Type 0} (g : Ghosts S) where
     pub changes : (m₀ m : Queue) (k₀ k : Ledger) → (is_aged ≡ true → IsAged t m) → Suits effect (with_expired t m) → Works (within g old) old.failed m₀ k₀ m k
         → MatchResult result (λ _. Works (within g new) new.failed m₀ k₀ (written t effect (with_expired t m)) (kept_after sender said reply (given_in effect) k))
         (λ _. Works (within g new) new.failed m₀ k₀ m k)
-    -- What is acceptable fails for want of memory or of the store alone.
+    -- What is acceptable fails for lack of memory or of the store alone.
     pub cause : (m₀ m : Queue) (k₀ k : Ledger) → Works (within g old) old.failed m₀ k₀ m k → Serves (within g new) → (is_aged ≡ true → IsAged t m) → IsAcceptable t effect sender reply m k
         → OnlyNoAnswer result

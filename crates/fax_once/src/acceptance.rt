@@ -43,7 +43,7 @@ struct Decided {
 ///
 /// # Errors
 ///
-/// Want of memory and the faults of the store. Then nothing has changed in the work, or it can't be committed.
+/// Lack of memory and the faults of the store. Then nothing has changed in the work, or it can't be committed.
 pub(crate) fn answer_new<S: Alter>(
     work: &mut Work<'_, S>,
     office: &Office,

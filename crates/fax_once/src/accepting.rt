@@ -24,7 +24,7 @@ use std::alloc::Global;
 ///
 /// # Errors
 ///
-/// Want of memory and the faults of the store. Then nothing has changed in the work, or it can't be committed.
+/// Lack of memory and the faults of the store. Then nothing has changed in the work, or it can't be committed.
 pub(crate) fn accept<S: Alter>(
     work: &mut Work<'_, S>,
     alloc: Global,

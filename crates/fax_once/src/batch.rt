@@ -107,7 +107,7 @@ fn answer_each<S: Alter>(
 ///
 /// # Errors
 ///
-/// Want of memory and the faults of the store. Then the work isn't to be committed.
+/// Lack of memory and the faults of the store. Then the work isn't to be committed.
 fn answer_within<S: Alter>(
     work: &mut Work<'_, S>,
     office: &Office,
