@@ -536,6 +536,12 @@ module _ {P H : Type 0} (did : P → Step → P → Type 0) (answers : Replying 
             subst (λ (b : Bool). GoesFrom did answers over count place p₂ h₂ l₇ 0 0 b (IsSettled b) start first earlier) (sym (or_false f))
             (held_turn none (subst (λ (b : Bool). HoldsUp did place p p₂ l₆ l₇ b f) (and_true is_full) up))
 
+-- where something was written, something moved
+pub either_moved : (x w e : Bool) → w ≡ true → ((x || w) || e) ≡ true
+either_moved true w e is = refl
+either_moved false true e is = refl
+either_moved false false e is = absurd cc
+
 -- ---- a free place
 
 -- what is kept of a connection that came is what became of it

@@ -3,7 +3,7 @@ use Rattle.std.proofs.Common.{◌≡◌, ◌⊎◌, ℕ, ◌+◌, ◌<◌, ◌�
 use Rattle.std.proofs.lemmas.Bool.{eq-eqb}
 use Rattle.std.specs.Prelude.{if◌then◌else◌}
 use Rattle.fax_http.specs.Serving.{Replying}
-use Rattle.fax_net.specs.Deeds.{Acts, Does, TakesIn, Writes, is_deed, moves}
+use Rattle.fax_net.specs.Deeds.{Acts, Does, TakesIn, TakesMore, Writes, is_deed, moves}
 use Rattle.fax_net.specs.History.{Act, Answered, AreAnswered, At, Came, Dry, Ended, Failed, Fits, Happens, HasRoom, Held, IsRight, Left, Missed, Refused, Said, Step, Talk, Took, Waits, acted, comings, talk}
 use Rattle.fax_net.specs.Link.{Holds, awaits, is_owing}
 use Rattle.fax_net.specs.Many.{GoesFrom, Runs}
@@ -256,6 +256,24 @@ module _ {P H : Type 0} (did : P → Step → P → Type 0) (answers : Replying 
         subst (λ v. GoesFrom did answers over count place v h link₂ 0 0 moved (HasTaken link moved (talk place earlier)) start first earlier) (sym same)
         (goes_still link₂ 0 moved (HasTaken link moved (talk place earlier)) (subst (λ l. Holds (talk place earlier) l) (sym still) holds) unmoved
         ((λ b waits. absurd (let c = sym none ∙ waits in cc)), refl, λ b blocked. blocked))
+
+    -- so it does where something was written before, and nothing is read
+    pub goes_more : (p₂ : P) (link link₂ : Link) (written moved : Bool) → TakesMore did place p p₂ link link₂ written moved → Holds (talk place earlier) link
+        → (written ≡ true → (talk place earlier).is_moved ≡ true) → GoesFrom did answers over count place p₂ h link₂ 0 0 moved (HasTaken link moved (talk place earlier)) start first earlier
+    goes_more p₂ link link₂ written moved (inr takes) holds has = goes_takes p₂ link link₂ moved takes holds
+    goes_more p₂ link link₂ written moved (inl (is, more, same, still)) holds has =
+        subst (λ v. GoesFrom did answers over count place v h link₂ 0 0 moved (HasTaken link moved (talk place earlier)) start first earlier) (sym same) (record {
+          later = earlier;
+          runs = runs;
+          holds = subst (λ l. Holds (talk place earlier) l) (sym still) holds;
+          others = λ k n. refl;
+          left_is = refl;
+          grown = omega arith;
+          looks_are = refl;
+          stays_moved = λ e. e;
+          has_moved = λ e. has is;
+          also = ((λ b waits. absurd (let c = sym more ∙ b in cc)), refl, λ b blocked. blocked);
+        })
 
 -- ---- one after the other
 

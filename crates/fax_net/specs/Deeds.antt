@@ -55,6 +55,10 @@ module _ {P : Type 0} (did : P → Step → P → Type 0) (place : ℕ) (peers p
   abbrev pub TakesIn : Bool → Type 0
   TakesIn moved = ((act : Act) × Acts act moved × (moved ≡ false → act ≡ Dry)) ⊎ ((awaits link ≡ false) × Rests moved)
 
+  -- the same, unless something was written: then more may be to do, and nothing was done
+  abbrev pub TakesMore : Bool → Bool → Type 0
+  TakesMore has_written moved = ((has_written ≡ true) × (moved ≡ true) × (peers₂ ≡ peers) × (link₂ ≡ link)) ⊎ TakesIn moved
+
   -- where something is owed, it was written: where nothing moved, the peer took nothing
   abbrev pub Writes : Bool → Type 0
   Writes moved = ((act : Act) × Acts act moved × (moved ≡ false → act ≡ Waits)) ⊎ ((is_owing link ≡ false) × Rests moved)

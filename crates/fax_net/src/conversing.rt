@@ -3,7 +3,7 @@ ghost use Rattle.std.specs.Prelude.{◌≡◌, ◌&&◌, nat_le, nat_lt, true, f
 ghost use Rattle.fax_http.specs.Serving.{replying};
 ghost use Rattle.fax_net.specs.History.{IsAttended, room, untaken};
 ghost use Rattle.fax_net.specs.Link.{HasAnswered, awaits, is_done, is_taken};
-ghost use Rattle.fax_net.specs.Deeds.{Admits, Does, HoldsUp, TakesIn, Writes};
+ghost use Rattle.fax_net.specs.Deeds.{Admits, Does, HoldsUp, TakesIn, TakesMore, Writes};
 ghost use Rattle.fax_net.specs.Many.{IsSettled, Moves};
 
 use crate::link::{Link, Stage, stage_behind};
@@ -54,9 +54,9 @@ fn admit<P: Peers>(peers: &mut P, place: usize, link: &mut Link, left: &mut u64)
     }
 }
 
-/// Reads where a message is awaited, answers one that is there, writes what is owed, ends what is done, and reads again:
-/// where nothing more came then, there is nothing to do until the peer says more. One that asks for a listing is held
-/// while there is no room.
+/// Reads where a message is awaited, answers one that is there, writes what is owed, ends what is done, and reads again unless
+/// something was written: where nothing more came then, there is nothing to do until the peer says more. One that asks for
+/// a listing is held while there is no room.
 fn converse<P: Peers, H: Handler>(
     peers: &mut P,
     place: usize,
@@ -76,7 +76,7 @@ fn converse<P: Peers, H: Handler>(
     let written = write(peers, place, link);
     let ended = leave(peers, place, link);
     link.await_next();
-    let read = take_in(peers, place, link, piece);
+    let read = take_more(peers, place, link, piece, written);
     let moved = came | answered | refused | written | ended | read;
     let closed = hold(peers, place, link, is_full & !moved);
     closed | moved & (read | !link.awaits())
@@ -157,6 +157,21 @@ fn leave<P: Peers>(peers: &mut P, place: usize, link: &mut Link) -> bool
     peers.leave(place);
     link.clear(Stage::Free);
     true
+}
+
+/// Reads again where a message is awaited, and returns whether more may be to do at once. After a write nothing is read: what
+/// the peer says to that comes with the next look, beside what others say.
+fn take_more<P: Peers>(
+    peers: &mut P,
+    place: usize,
+    link: &mut Link,
+    piece: &mut [u8],
+    has_written: bool,
+) -> bool
+    ensures does { TakesMore P.did place peers.old peers.new link.old link.new has_written result }
+    ensures still { result ≡ false → link.new ≡ link.old }
+{
+    has_written || take_in(peers, place, link, piece)
 }
 
 /// Reads once where a message is awaited.

@@ -17,6 +17,7 @@ use mio::{Events, Interest, Poll, Token};
 use std::alloc::{AllocError, Global};
 use std::io::{self, ErrorKind};
 use std::net::ToSocketAddrs;
+use std::thread::yield_now;
 use std::time::{Duration, Instant};
 
 /// The token of the listening socket; those of connections are their places.
@@ -331,6 +332,8 @@ impl Peers for Sockets<'_> {
     fn look(&mut self, is_busy: bool, is_admitting: bool) {
         self.ask_anew();
         let wait = if is_busy {
+            // A peer on this machine that was just written to may wait for this very processor.
+            yield_now();
             Some(Duration::ZERO)
         } else {
             self.time_left(is_admitting)

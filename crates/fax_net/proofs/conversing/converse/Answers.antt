@@ -3,8 +3,8 @@ use Rattle.fax_http.specs.Serving.{replying}
 use Rattle.fax_net.specs.History.{room, talk, untaken}
 use Rattle.fax_net.specs.Link.{is_due}
 use Rattle.fax_net.specs.Lists.{is_none}
-use Rattle.fax_net.proofs.ConversingLemmas.{goes_answered, goes_awaiting, goes_ended, nothing_pending, turned}
-use Rattle.fax_net.proofs.HistoryLemmas.{goes_both, goes_does, goes_takes, goes_writes}
+use Rattle.fax_net.proofs.ConversingLemmas.{either_moved, goes_answered, goes_awaiting, goes_ended, nothing_pending, turned}
+use Rattle.fax_net.proofs.HistoryLemmas.{goes_both, goes_does, goes_more, goes_takes, goes_writes}
 use Rattle.fax_net.proofs.LinkLemmas.{due_parts}
 use Rattle.fax_net.proofs.RoomLemmas.{none_untaken, others_less, room_left}
 use Rattle.fax_net.proofs.conversing.converse.Goals as goal
@@ -36,13 +36,14 @@ returns g c count start first earlier runs below kept fresh known =
     c.leave-ended.new.peers c.write-written.new.link c.leave-ended.new.link c.leave-ended.result c.leave-ended.ensures.does written.holds in
     let left = goes_both did answers over count place start first earlier _ _ _ _ _ _ _ _ _ _ written four in
     let next = goes_awaiting did answers over count place start first earlier _ _ c.leave-ended.new.link c.await_next.new.self _ _ left c.await_next.ensures in
-    let five = goes_takes did answers over count place below start first next.later c.leave-ended.new.peers c.answer-answered.new.handler next.runs
-    c.take_in-read.new.peers c.await_next.new.self c.take_in-read.new.link c.take_in-read.result c.take_in-read.ensures.does next.holds in
+    let has = λ (wrote : c.write-written.result ≡ true). next.has_moved (either_moved _ c.write-written.result c.leave-ended.result wrote) in
+    let five = goes_more did answers over count place below start first next.later c.leave-ended.new.peers c.answer-answered.new.handler next.runs
+    c.take_more-read.new.peers c.await_next.new.self c.take_more-read.new.link c.write-written.result c.take_more-read.result c.take_more-read.ensures.does next.holds has in
     let all = goes_both did answers over count place start first earlier _ _ _ _ _ _ _ _ _ _ next five in
-    turned did answers over count place start first earlier c.take_in-read.new.peers c.args.handler.now c.answer-answered.new.handler c.args.is_full
-    c.take_in-came.new.link c.answer-answered.new.link c.end_input-refused.new.self c.write-written.new.link c.leave-ended.new.link c.await_next.new.self c.take_in-read.new.link
-    c.take_in-came.result c.answer-answered.result c.end_input-refused.result c.write-written.result c.leave-ended.result c.take_in-read.result (talk place next.later)
+    turned did answers over count place start first earlier c.take_more-read.new.peers c.args.handler.now c.answer-answered.new.handler c.args.is_full
+    c.take_in-came.new.link c.answer-answered.new.link c.end_input-refused.new.self c.write-written.new.link c.leave-ended.new.link c.await_next.new.self c.take_more-read.new.link
+    c.take_in-came.result c.answer-answered.result c.end_input-refused.result c.write-written.result c.leave-ended.result c.take_more-read.result (talk place next.later)
     c.answer-answered.ensures c.end_input-refused.ensures c.write-written.ensures.still c.leave-ended.ensures.still
     (λ unread is. c.requires.taken (sym (ap (λ l. l.stage) (c.take_in-came.ensures.still unread)) ∙ is)) c.leave-ended.ensures.left
-    c.await_next.ensures c.take_in-read.ensures.still all (λ unwritten unended unread owes. all.also.2 unread (next.also unended (written.also unwritten owes))) below c.args.link.now kept c.take_in-came.ensures.still known
+    c.await_next.ensures c.take_more-read.ensures.still all (λ unwritten unended unread owes. all.also.2 unread (next.also unended (written.also unwritten owes))) below c.args.link.now kept c.take_in-came.ensures.still known
     c.hold-closed.new.peers c.hold-closed.new.link c.hold-closed.result c.awaits.result c.hold-closed.ensures c.awaits.ensures
