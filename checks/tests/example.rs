@@ -1,4 +1,4 @@
-//! Rattle, not Rust: checks/try-tests compiles and runs it without a proof, and rt doesn't read it.
+//! Rattle, not Rust: checks/unproved compiles it without a proof, checks/try-tests runs it, and rt doesn't read it.
 //! One fax of three pages over a bad line, as messages and the replies that are wanted.
 use fax_ask::{Method, Reply};
 use fax_job::Moment;

@@ -1,4 +1,4 @@
-//! Rattle, not Rust: checks/try-tests compiles and runs it without a proof, and rt doesn't read it.
+//! Rattle, not Rust: checks/unproved compiles it without a proof, checks/try-tests runs it, and rt doesn't read it.
 //! A queue of an office with two modems, and its answers to messages.
 use crate::example::{Exchange, arrival_of, is_reply};
 use fax_dest::{Controls, Setup};

@@ -1,5 +1,7 @@
-//! Rattle, not Rust: checks/try-tests compiles and runs it without a proof, and rt doesn't read it.
+//! Rattle, not Rust: checks/unproved compiles it without a proof, checks/try-tests runs it, and rt doesn't read it.
 //! Rows that no call of ours writes: what reads them refuses each as strange.
+use crate::expect::expect_same;
+use crate::files::new_database;
 use fax_tables::{
     Hold, Kept, Meta, StoreFault, calls_in, create_tables, dial_in, grant_in, held_job_in, job_in,
     prospect_in,
@@ -107,13 +109,16 @@ fn fault_in(alloc: Global, row: &Row, record: Record) -> Option<StoreFault> {
 }
 
 /// The same once the change has run.
-fn fault_after(alloc: Global, change: &str, record: Record) -> Result<Option<StoreFault>, Fail> {
-    let row = row_after(Connection::open_in_memory(alloc)?, change, record)?;
-    Ok(fault_in(alloc, &row, record))
+fn fault_after(
+    rt: &HostRuntime,
+    change: &str,
+    record: Record,
+) -> Result<Option<StoreFault>, Fail> {
+    let row = row_after(new_database(rt)?, change, record)?;
+    Ok(fault_in(rt.alloc(), &row, record))
 }
 
-#[test]
-fn rows_within_their_limits_are_read(rt: HostRuntime) -> Result<(), Fail> {
+pub(crate) fn rows_within_their_limits_are_read(rt: &HostRuntime) -> Result<(), Fail> {
     for (change, record) in [
         ("UPDATE jobs SET tts = 4102444800", Record::Job),
         ("UPDATE jobs SET priority = 255", Record::Job),
@@ -129,14 +134,13 @@ fn rows_within_their_limits_are_read(rt: HostRuntime) -> Result<(), Fail> {
         ("UPDATE holds SET job = 999999", Record::HeldJob),
         ("UPDATE jobs SET dial = '+14155550100'", Record::Dial),
     ] {
-        let fault = fault_after(rt.alloc(), change, record)?;
-        assert_eq!(rt; fault, None, "{change}");
+        let fault = fault_after(rt, change, record)?;
+        expect_same(&(change, fault), &(change, None))?;
     }
     Ok(())
 }
 
-#[test]
-fn rows_past_their_limits_are_strange(rt: HostRuntime) -> Result<(), Fail> {
+pub(crate) fn rows_past_their_limits_are_strange(rt: &HostRuntime) -> Result<(), Fail> {
     for (change, record) in [
         ("UPDATE jobs SET dial = '555 0111'", Record::Job),
         ("UPDATE jobs SET dial = 'five'", Record::Job),
@@ -166,8 +170,8 @@ fn rows_past_their_limits_are_strange(rt: HostRuntime) -> Result<(), Fail> {
         ("UPDATE holds SET job = 4294967296", Record::HeldJob),
         ("UPDATE jobs SET dial = '555 0111'", Record::Dial),
     ] {
-        let fault = fault_after(rt.alloc(), change, record)?;
-        assert_eq!(rt; fault, Some(StoreFault::Strange), "{change}");
+        let fault = fault_after(rt, change, record)?;
+        expect_same(&(change, fault), &(change, Some(StoreFault::Strange)))?;
     }
     Ok(())
 }

@@ -1,6 +1,8 @@
-//! Rattle, not Rust: checks/try-tests compiles and runs it without a proof, and rt doesn't read it.
+//! Rattle, not Rust: checks/unproved compiles it without a proof, checks/try-tests runs it, and rt doesn't read it.
 //! Arrivals as a run and as a batch. The program makes neither: it hands each arrival to the queue by itself.
 use crate::example::{Exchange, ONE_FAX, arrival_of, is_reply};
+use crate::expect::expect_same;
+use crate::files::new_store;
 use crate::queues::queue_over;
 use fax_ask::Reply;
 use fax_once::Arrival;
@@ -49,16 +51,12 @@ fn are_answered_together<S: Alter + Drop>(
     Ok(are_wanted(&first, exchanges) && is_reply(&second[0], &exchanges[0]) && is_reply(&second[last], &exchanges[last]))
 }
 
-#[test]
-fn a_run_answers_one_fax(rt: HostRuntime) -> Result<(), Fail> {
-    let store = Store::new_in_memory(rt.alloc())?;
-    assert!(rt; are_answered(rt.alloc(), store, &ONE_FAX)?);
-    Ok(())
+pub(crate) fn a_run_answers_one_fax(rt: &HostRuntime) -> Result<(), Fail> {
+    let store = new_store(rt)?;
+    expect_same(&are_answered(rt.alloc(), store, &ONE_FAX)?, &true)
 }
 
-#[test]
-fn a_batch_answers_one_fax(rt: HostRuntime) -> Result<(), Fail> {
-    let store = Store::new_in_memory(rt.alloc())?;
-    assert!(rt; are_answered_together(rt.alloc(), store, &ONE_FAX)?);
-    Ok(())
+pub(crate) fn a_batch_answers_one_fax(rt: &HostRuntime) -> Result<(), Fail> {
+    let store = new_store(rt)?;
+    expect_same(&are_answered_together(rt.alloc(), store, &ONE_FAX)?, &true)
 }

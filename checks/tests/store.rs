@@ -1,5 +1,7 @@
-//! Rattle, not Rust: checks/try-tests compiles and runs it without a proof, and rt doesn't read it.
+//! Rattle, not Rust: checks/unproved compiles it without a proof, checks/try-tests runs it, and rt doesn't read it.
 //! Works that come to nothing, and one that adds a job.
+use crate::expect::expect_same;
+use crate::files::new_store;
 use fax_job::{Dial, Job, JobFields, JobTag, Moment, Name, Phase, RequestNumber, Status, Wish};
 use fax_lines::read_lines;
 use fax_store::{Meta, Store, StoreFault};
@@ -37,11 +39,9 @@ fn behind_dropped<S: Alter + Drop>(mut store: Store<S>) -> Result<(Moment, bool)
     holds(&mut store, number)
 }
 
-#[test]
-fn dropped_work_leaves_the_rows_before_it(rt: HostRuntime) -> Result<(), Fail> {
-    let found = behind_dropped(Store::new_in_memory(rt.alloc())?)?;
-    assert_eq!(rt; found, (Moment::new(0), false));
-    Ok(())
+pub(crate) fn dropped_work_leaves_the_rows_before_it(rt: &HostRuntime) -> Result<(), Fail> {
+    let found = behind_dropped(new_store(rt)?)?;
+    expect_same(&found, &(Moment::new(0), false))
 }
 
 /// Keeps two replies to one number, and commits.
@@ -63,14 +63,12 @@ fn behind_refused<S: Alter + Drop>(
     Ok((refused, clock, is_kept))
 }
 
-#[test]
-fn refused_call_refuses_the_commit(rt: HostRuntime) -> Result<(), Fail> {
-    let found = behind_refused(Store::new_in_memory(rt.alloc())?)?;
-    assert_eq!(rt;
-        found,
-        (Err(StoreFault::Unavailable), Moment::new(0), false)
-    );
-    Ok(())
+pub(crate) fn refused_call_refuses_the_commit(rt: &HostRuntime) -> Result<(), Fail> {
+    let found = behind_refused(new_store(rt)?)?;
+    expect_same(
+        &found,
+        &(Err(StoreFault::Unavailable), Moment::new(0), false),
+    )
 }
 
 /// A first job, that waits.
@@ -120,9 +118,7 @@ fn behind_added<S: Alter + Drop>(alloc: Global, mut store: Store<S>) -> Result<(
     Ok((found.is_some(), meta.next_job))
 }
 
-#[test]
-fn added_job_is_there(rt: HostRuntime) -> Result<(), Fail> {
-    let found = behind_added(rt.alloc(), Store::new_in_memory(rt.alloc())?)?;
-    assert_eq!(rt; found, (true, 2));
-    Ok(())
+pub(crate) fn added_job_is_there(rt: &HostRuntime) -> Result<(), Fail> {
+    let found = behind_added(rt.alloc(), new_store(rt)?)?;
+    expect_same(&found, &(true, 2))
 }

@@ -1,6 +1,8 @@
-//! Rattle, not Rust: checks/try-tests compiles and runs it without a proof, and rt doesn't read it.
+//! Rattle, not Rust: checks/unproved compiles it without a proof, checks/try-tests runs it, and rt doesn't read it.
 //! The call that shows a job to the process that has the queue.
 use crate::example::Exchange;
+use crate::expect::expect_same;
+use crate::files::new_store;
 use crate::queues::{is_answered, queue_over};
 use fax_job::Moment;
 use fax_once::Queue;
@@ -79,9 +81,7 @@ fn shows_over<S: Alter + Drop>(
     Ok(views.len())
 }
 
-#[test]
-fn a_view_shows_a_later_moment_and_changes_nothing(rt: HostRuntime) -> Result<(), Fail> {
-    let store = Store::new_in_memory(rt.alloc())?;
-    assert_eq!(rt; shows_over(rt.alloc(), store, &VIEWS)?, VIEWS.len());
-    Ok(())
+pub(crate) fn a_view_shows_a_later_moment_and_changes_nothing(rt: &HostRuntime) -> Result<(), Fail> {
+    let store = new_store(rt)?;
+    expect_same(&shows_over(rt.alloc(), store, &VIEWS)?, &VIEWS.len())
 }

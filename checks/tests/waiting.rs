@@ -1,5 +1,7 @@
-//! Rattle, not Rust: checks/try-tests compiles and runs it without a proof, and rt doesn't read it.
+//! Rattle, not Rust: checks/unproved compiles it without a proof, checks/try-tests runs it, and rt doesn't read it.
 //! The jobs that wait come one at a time as they come all at once, each with the calls to its number.
+use crate::expect::expect_same;
+use crate::files::new_store;
 use fax_core::{better, due};
 use fax_job::{Job, Moment};
 use fax_store::Store;
@@ -215,13 +217,12 @@ fn waiting<S: Alter + Drop>(
     Ok((all, one_at_a_time(alloc, &mut store, t)?))
 }
 
-#[test]
-fn candidates_are_the_jobs_that_wait(rt: HostRuntime) -> Result<(), Fail> {
+pub(crate) fn candidates_are_the_jobs_that_wait(rt: &HostRuntime) -> Result<(), Fail> {
     for queue in &QUEUES {
-        let store = Store::new_in_memory(rt.alloc())?;
+        let store = new_store(rt)?;
         let (all, candidates) = waiting(rt.alloc(), store, queue.jobs, queue.t)?;
-        assert_eq!(rt; all.as_slice(), queue.waiting);
-        assert_eq!(rt; candidates.as_slice(), queue.waiting);
+        expect_same(&all.as_slice(), &queue.waiting)?;
+        expect_same(&candidates.as_slice(), &queue.waiting)?;
     }
     Ok(())
 }
@@ -229,12 +230,10 @@ fn candidates_are_the_jobs_that_wait(rt: HostRuntime) -> Result<(), Fail> {
 /// How many jobs are more than one page of candidates, and more than two.
 const MANY: usize = 60;
 
-#[test]
-fn candidates_go_on_behind_a_page(rt: HostRuntime) -> Result<(), Fail> {
+pub(crate) fn candidates_go_on_behind_a_page(rt: &HostRuntime) -> Result<(), Fail> {
     let jobs = [("5550111", 1000, 127, WAITING, 0); MANY];
-    let store = Store::new_in_memory(rt.alloc())?;
+    let store = new_store(rt)?;
     let (all, candidates) = waiting(rt.alloc(), store, &jobs, 1000)?;
-    assert_eq!(rt; all.len(), MANY);
-    assert_eq!(rt; candidates, all);
-    Ok(())
+    expect_same(&all.len(), &MANY)?;
+    expect_same(&candidates, &all)
 }
