@@ -1,16 +1,23 @@
 -- What a check of all tables comes to.
-use Rattle.std.proofs.Common.{◌≡◌, List, [], ◌∷◌, All, Option, Some, Ok, Err, Result, IfOk, refl, sym, subst, ◌∙◌, arith}
+use Rattle.std.proofs.Common.{◌≡◌, inl, inr, pos, List, [], ◌∷◌, All, Option, Some, None, Ok, Err, Result, IfOk, IsTrue, ap, refl, sym, subst, ◌∙◌, arith}
+use Rattle.std.proofs.lemmas.List.Elements.{recursion_from_All}
 use Rattle.std.specs.Prelude.{◌==◌}
 use Rattle.std.proofs.lemmas.Bool.{eqb-true}
 use Rattle.sqlite.specs.Effect.{Database}
 use Rattle.sqlite.specs.Order.{Row}
+use Rattle.sqlite.specs.Edit.{id_in}
+use Rattle.sqlite.specs.Tree.{rowid}
+use Rattle.sqlite.specs.View.{is_int}
+use Rattle.sqlite.specs.declared.types.Value.TheVariants.{Int}
 use Rattle.sqlite_rules.specs.Lists.{Has}
-use Rattle.sqlite_rules.proofs.ListLemmas.{has_filtered, has_found}
-use Rattle.fax_check.specs.Check.{AreCalled, HasHolders, HasNumbers, IsChecked}
+use Rattle.sqlite_rules.proofs.ListLemmas.{all_has, has_filtered, has_found}
+use Rattle.sqlite_rules.proofs.TableLemmas.{int_is}
+use Rattle.fax_check.specs.Check.{AreCalled, AreTablesChecked, HasHolders, HasNumbers, IsChecked}
 use Rattle.fax_check.specs.Whole.{AreWhole, Holder, IsWholeTable, numbers_row, passed}
 use Rattle.fax_check.specs.declared.tables.Flaw.{Flaw}
+use Rattle.fax_check.specs.declared.tables.Table.TheVariants as table
 use Rattle.sqlite.specs.State.{State, Shown}
-use Rattle.fax_check.specs.Holders.{AreHolders, AreHoldersIn, IsHoldShown}
+use Rattle.fax_check.specs.Holders.{AreHolders, AreHoldersIn, IsHoldRow, IsHoldShown}
 use Rattle.fax_check.specs.declared.holders.Holders.{Holders}
 use Rattle.fax_check.specs.declared.holders.Holders.TheVariants.{Right, Wrong}
 use Rattle.fax_check.specs.declared.tables.TheConstants.{SELECT_ALL_HOLDS}
@@ -31,9 +38,9 @@ use Rattle.fax_layout.proofs.ColumnLemmas.{record_of}
 use Rattle.fax_layout.proofs.SelectLemmas.{show}
 use Rattle.fax_schema.specs.Schema.{holds_tree}
 use Rattle.fax_tables.specs.Job.{IsLawfulJob}
-use Rattle.fax_tables.specs.Meta.{meta_of}
-use Rattle.fax_tables.specs.Row.{hold_columns, meta_row}
-use Rattle.fax_tables.specs.Tables.{IsLawfulGrant, TablesMean}
+use Rattle.fax_tables.specs.Meta.{meta_of, with_meta}
+use Rattle.fax_tables.specs.Row.{HasValue, hold_columns, meta_row}
+use Rattle.fax_tables.specs.Tables.{IsLawfulGrant, IsLawfulMeta, TablesMean}
 use Rattle.fax_tables.specs.declared.meta.Meta.{Meta}
 
 -- ---- a row of holds
@@ -75,10 +82,14 @@ pub holders_of : (old new : State) → IsStored old.now → (now : Database) →
 holders_of old new stored now is rows shown (Ok (Right held)) of =
     let it = subst (λ d. AreHoldersIn d rows (Right held)) (sym is) of in
     (holders_are old new old.now stored refl rows shown held.items it.0, it.1)
-holders_of old new stored now is rows shown (Ok (Wrong id)) of = λ sound.
+holders_of old new stored now is rows shown (Ok (Wrong id)) of =
     let it = subst (λ d. AreHoldersIn d rows (Wrong id)) (sym is) of in
     let row = hold_of old new old.now stored refl rows shown it.0 it.1 in
-    it.2 (subst (IsHoldShown old.now) (sym row.2) (hold_shown old.now sound.0 sound.1 sound.2 (sound.3).sound row.0 row.1))
+    let wrong : ¬ IsHoldRow old.now row.0 = λ right. it.2 (subst (IsHoldShown old.now) (sym row.2) right) in
+    let int = int_is (rowid row.0) (all_has (λ x. IsTrue (is_int (rowid x))) (old.now.trees holds_tree) row.0 stored.ordered.holds.integers row.1) in (
+      λ sound. wrong (hold_shown old.now sound.0 sound.1 sound.2 (sound.3).sound row.0 row.1),
+      record { row = row.0; has = row.1; has_id = int ∙ ap Int (sym (it.3 (id_in (rowid row.0)) (subst (λ x. HasValue x 3 (Int (id_in (rowid row.0)))) (sym row.2) (record { within = omega arith; is = int })))); wrong = wrong },
+    )
 holders_of old new stored now is rows shown (Err e) of = tt
 
 -- ---- all tables
@@ -114,6 +125,28 @@ module _ (db : Database) (stored : IsStored db) (meta : Meta) (held : List Holde
   -- and the numbers to dial are counted
   pub sound_called : IsSound db → AreCalled db held
   sound_called sound = (meant_whole sound).called
+
+  -- a flaw of a row of a table that is read
+  pub row_flawed : (flaw : Flaw) → AreTablesChecked meta held db (Some flaw) → IsChecked db (Some flaw)
+  row_flawed flaw told = (
+    λ sound. let whole = all_has (IsWholeTable meta held db) passed told.0 (recursion_from_All (IsWholeTable meta held db) passed (sound_whole sound)) told.1 in
+        (told.2).2.wrong (whole (told.2).2.row (told.2).2.has),
+    inr (inr (record { meta = meta; numbers = numbers; held = held; holders = holders; is_of = inl told })),
+  )
+
+  -- and of a number to dial that isn't counted
+  pub call_flawed : ¬ AreCalled db held → IsChecked db (Some (record { table = table.Calls; row = None }))
+  call_flawed not_called = (
+    λ sound. not_called (sound_called sound),
+    inr (inr (record { meta = meta; numbers = numbers; held = held; holders = holders; is_of = inr (refl, not_called) })),
+  )
+
+-- rows that mean a queue have its numbers, and so those that have none mean none
+pub no_numbers_flawed : (db : Database) → ((meta : Meta) → ¬ HasNumbers db meta) → IsChecked db (Some (record { table = table.Meta; row = Some (pos 1) }))
+no_numbers_flawed db none = (λ sound. none (meta_of sound.0) (record { is = sound.2.meta; lawful = λ m. lawful_as sound.0 sound.2.lawful.meta m }), inl (refl, none))
+  where
+    lawful_as : (n : Queue) → IsLawfulMeta n → (m : Queue) → IsLawfulMeta (with_meta (meta_of n) m)
+    lawful_as n it m = record { clock = it.clock; next_job = it.next_job; next_grant = it.next_grant }
 
 -- what is told of the rows of one database is told of another that is the same
 pub checked_rows : (db now : Database) → db ≡ now → (meta : Meta) (held : List Holder) → HasHolders db held → (r : Result (Option Flaw) StoreFault)

@@ -6,7 +6,7 @@ use Rattle.std.proofs.lemmas.Bool.{and_parts}
 use Rattle.std.proofs.lemmas.Cmp.{tied_itself}
 use Rattle.std.proofs.lemmas.Map.Lookups.{exact_signed}
 use Rattle.std.proofs.lemmas.List.Elements.{recursion_from_All}
-use Rattle.std.proofs.lemmas.List.Sorted.{All-permutation, IsPermutation-map}
+use Rattle.std.proofs.lemmas.List.Sorted.{IsPermutation-map, IsPermutation-sym}
 use Rattle.std.specs.Ordering.{is_eq}
 use Rattle.std.specs.declared.cmp.Ordering.TheVariants.{Equal}
 use Rattle.sqlite.proofs.Callers.{reads_as}
@@ -32,7 +32,6 @@ use Rattle.sqlite_trees.specs.Tree.{Trees}
 use Rattle.sqlite_trees.proofs.ListLemmas.{map-map}
 use Rattle.sqlite_value.specs.Order.{value_cmp}
 use Rattle.sqlite_value.proofs.OrderLemmas.{value_cmp-Int, value_cmp_total}
-use Rattle.fax_check.proofs.BridgeLemmas.{of_all}
 use Rattle.fax_check.proofs.LookLemmas.{equal_is}
 use Rattle.fax_layout.specs.ByRowid.{IsByRowid}
 use Rattle.fax_schema.specs.Schema.{our_tables}
@@ -135,11 +134,11 @@ module _ (sql : List ℕ) (at first second : ℕ) (project : List Term) (names :
       let pair = part_has (joined at (db.trees second)) (db.trees first) r env has (part_has (λ s. ([] ∷ r ∷ s ∷ []) ∷ []) (or_nulls (partners at (db.trees second) r)) s env with_it (inl refl)) in
       all_has P rows (eval_all project env) (recursion_from_All P rows all) (has_permuted (map (eval_all project) (pairs db)) rows (eval_all project env) pairs_shown (mapped_has (eval_all project) (pairs db) env pair))
 
-  -- and the other way round
-  pub joined_each : (P : Row → Type 0) → ((r s : Row) → Has (db.trees first) r → Has (or_nulls (partners at (db.trees second) r)) s → P (eval_all project ([] ∷ r ∷ s ∷ []))) → All P rows
-  joined_each P each = All-permutation P (map (eval_all project) (pairs db)) rows pairs_shown (of_all P (map (eval_all project) (pairs db)) (λ row has.
-      let env = has_mapped (eval_all project) (pairs db) row has in
-      let of = has_part (joined at (db.trees second)) (db.trees first) env.0 env.1 in
-      let with_it = has_part (λ s. ([] ∷ of.0 ∷ s ∷ []) ∷ []) (or_nulls (partners at (db.trees second) of.0)) env.0 of.2 in
-      let is : env.0 ≡ [] ∷ of.0 ∷ with_it.0 ∷ [] = elim with_it.2 [ inl same ↦ same | inr none ↦ absurd none ] in
-      subst P (sym (env.2 ∙ ap (eval_all project) is)) (each of.0 with_it.0 of.1 with_it.1)))
+  -- each row that is shown is one of the first with one that is joined to it
+  pub row_joined : (x : Row) → Has rows x → (r : Row) × Has (db.trees first) r × (s : Row) × Has (or_nulls (partners at (db.trees second) r)) s × (x ≡ eval_all project ([] ∷ r ∷ s ∷ []))
+  row_joined x has =
+      let made = has_mapped (eval_all project) (pairs db) x (has_permuted rows (map (eval_all project) (pairs db)) x (IsPermutation-sym (map (eval_all project) (pairs db)) rows pairs_shown) has) in
+      let of = has_part (joined at (db.trees second)) (db.trees first) made.0 made.1 in
+      let with_it = has_part (λ s. ([] ∷ of.0 ∷ s ∷ []) ∷ []) (or_nulls (partners at (db.trees second) of.0)) made.0 of.2 in
+      let is : made.0 ≡ [] ∷ of.0 ∷ with_it.0 ∷ [] = elim with_it.2 [ inl same ↦ same | inr none ↦ absurd none ] in
+      (of.0, of.1, with_it.0, with_it.1, made.2 ∙ ap (eval_all project) is)

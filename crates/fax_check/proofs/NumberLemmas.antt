@@ -1,5 +1,5 @@
 -- What is read of meta.
-use Rattle.std.proofs.Common.{◌≡◌, inl, inr, ℤ, pos, negsuc, List, [], ◌∷◌, map, true, Some, None, Ok, Err, Result, IfOk, refl, sym, ap, subst, ◌∙◌}
+use Rattle.std.proofs.Common.{◌≡◌, inl, inr, ℤ, pos, negsuc, List, [], ◌∷◌, ◌&&◌, map, true, Some, None, Ok, Err, Result, IfOk, refl, sym, ap, subst, ◌∙◌}
 use Rattle.std.proofs.lemmas.Bool.{and_parts}
 use Rattle.sqlite.specs.Effect.{Database}
 use Rattle.sqlite.specs.Order.{Row, column}
@@ -11,27 +11,27 @@ use Rattle.sqlite_rules.specs.Lists.{Has}
 use Rattle.sqlite_rules.proofs.ListLemmas.{all_has}
 use Rattle.sqlite_rules.proofs.TableLemmas.{int_is}
 use Rattle.sqlite_sql.specs.declared.ops.CompareOp.TheVariants.{Eq}
-use Rattle.sqlite_value.proofs.OrderLemmas.{value_cmp-Int}
+use Rattle.sqlite_value.proofs.OrderLemmas.{value_cmp-Int, value_cmp_total}
+use Rattle.std.proofs.lemmas.Cmp.{tied_itself}
 use Rattle.std.specs.Ordering.{int_cmp, is_eq}
 use Rattle.fax_layout.specs.ByRowid.{IsByRowid}
-use Rattle.fax_check.specs.Check.{AreNumbers, IsOfVersion}
+use Rattle.fax_check.specs.Check.{AreNumbers, HasNumbers, IsOfVersion}
 use Rattle.fax_check.specs.Reading.{known_of}
 use Rattle.fax_check.specs.Sound.{IsSound, IsStored}
 use Rattle.fax_check.specs.Whole.{numbers_row}
-use Rattle.fax_check.proofs.LookLemmas.{same_some}
 use Rattle.fax_check.proofs.ShapeLemmas as shape
-use Rattle.fax_core.specs.Queue.{Queue}
+use Rattle.fax_core.specs.Queue.{Queue, empty_queue}
 use Rattle.fax_schema.specs.Schema.{meta_tree}
 use Rattle.fax_schema.specs.declared.statements.TheConstants.{SELECT_META}
 use Rattle.fax_layout.proofs.CompareLemmas.{are_equal, compared, same_number}
 use Rattle.fax_schema.proofs.StatementTexts.{meta_project, meta_tests, select_meta}
 use Rattle.fax_store.specs.Store.{FindsRow}
-use Rattle.fax_store.proofs.FoundLemmas.{one_passes}
-use Rattle.fax_store.proofs.MetaLemmas.{meta_found}
+use Rattle.fax_layout.proofs.SelectLemmas.{passes, show}
+use Rattle.fax_store.proofs.FoundLemmas.{none_passes, one_passes, row_passes}
 use Rattle.fax_tables.specs.Fault.{OrUnavailable}
 use Rattle.fax_tables.specs.Meta.{meta_of, meta_shown, numbers_shown, with_meta}
 use Rattle.fax_tables.specs.Row.{HasValues, number}
-use Rattle.fax_tables.specs.Tables.{IsLawfulMeta, TablesMean}
+use Rattle.fax_tables.specs.Tables.{IsLawfulMeta}
 use Rattle.fax_tables.specs.declared.fault.StoreFault.{StoreFault}
 use Rattle.fax_tables.specs.declared.fault.StoreFault.TheVariants.{Strange, Unavailable}
 use Rattle.fax_tables.specs.declared.meta.Meta.{Meta}
@@ -56,6 +56,11 @@ alone (x ∷ []) is r (inl same) = (ap (λ (y : Row). y ∷ []) (sym same), ap (
 alone (x ∷ []) is r (inr none) = absurd none
 alone (x ∷ y ∷ rows) is r has = absurd cc
 
+-- what is in a list of one is that one
+only_one : (x r : Row) → Has (x ∷ []) r → r ≡ x
+only_one x r (inl is) = is
+only_one x r (inr none) = absurd none
+
 module _ (old new : State) (db : Database) (stored : IsStored db) (now : old.now ≡ db) (version : IsOfVersion db) where
   -- the numbers that are read of the row that is found are those of the one row of meta
   numbers_are : (row : Row) (meta : Meta) → FindsRow SELECT_META.now [] old new (Some row) → HasValues row 0 (numbers_shown meta) → db.trees meta_tree ≡ numbers_row meta ∷ []
@@ -75,18 +80,17 @@ module _ (old new : State) (db : Database) (stored : IsStored db) (now : old.now
       → IfOk read (λ meta. (m : Queue) → IsLawfulMeta (with_meta meta m)) → IfOk (known_of read) (AreNumbers db)
   numbers_known row (Ok meta) h found stands lawful = record { is = numbers_are row meta h stands; lawful = lawful }
   numbers_known row (Err Unavailable) h found stands lawful = tt
-  numbers_known row (Err Strange) h found stands lawful = λ sound.
-      let means : TablesMean old.now sound.0 sound.1 = subst (λ d. TablesMean d sound.0 sound.1) (sym now) sound.2 in
-      absurd (let no = found sound.0 (same_some (meta_found old new sound.0 sound.1 means (Some row) h)) sound.2.lawful.meta in cc)
+  numbers_known row (Err Strange) h found stands lawful = λ meta has.
+      let it = row_passes SELECT_META.now meta_tree meta_tests meta_project _ select_meta (λ trees. refl) [] old new db stored.schema_is now row h in
+      let is : row ≡ numbers_shown meta = it.3 ∙ ap (show meta_tree meta_tests meta_project []) (only_one (numbers_row meta) it.0 (subst (λ all. Has all it.0) has.is it.1)) in
+      absurd (let no = found (with_meta meta empty_queue) is (has.lawful empty_queue) in cc)
 
-  pub no_numbers : FindsRow SELECT_META.now [] old new None → ¬ IsSound db
-  no_numbers h sound =
-      let means : TablesMean old.now sound.0 sound.1 = subst (λ d. TablesMean d sound.0 sound.1) (sym now) sound.2 in
-      absurd (let no = meta_found old new sound.0 sound.1 means None h in cc)
-
--- a database whose rows mean a queue is of the third version
-pub other_version : (db : Database) → ¬ IsOfVersion db → ¬ IsSound db
-other_version db other sound = other (ap (map (λ (r : Row). column r 5)) sound.2.meta)
+  pub no_numbers : FindsRow SELECT_META.now [] old new None → (meta : Meta) → ¬ HasNumbers db meta
+  no_numbers h meta has =
+      let off = none_passes SELECT_META.now meta_tree meta_tests meta_project _ select_meta (λ trees. refl) [] old new db stored.schema_is now h (numbers_row meta) (subst (λ all. Has all (numbers_row meta)) (sym has.is) (inl refl)) in
+      let same : are_equal (number 1) (number 1) ≡ true = compared Eq (number 1) (number 1) refl refl ∙ ap is_eq (tied_itself value_cmp_total (number 1)) in
+      let on : passes meta_tree meta_tests meta_project [] (numbers_row meta) ≡ true = ap (λ b. b && true) same in
+      absurd cc
 
 -- and stored as it has to be
 pub sound_stored : (db : Database) → IsSound db → IsStored db

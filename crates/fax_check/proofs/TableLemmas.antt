@@ -1,5 +1,6 @@
 -- What the queries mean, and what a pass over their rows decides: a row is as it has to be just where it shows what it has to.
-use Rattle.std.proofs.Common.{◌≡◌, ℕ, ℤ, List, [], ◌∷◌, All, Option, Some, None, drop, MatchOption, IsTrue, inl, refl, sym, ap, ap₂, subst, ◌∙◌, arith, codes}
+use Rattle.std.proofs.Common.{◌≡◌, ℕ, ℤ, List, [], ◌∷◌, All, Option, Some, None, drop, map, IsTrue, inl, refl, sym, ap, ap₂, subst, ◌∙◌, arith, codes}
+use Rattle.std.proofs.lemmas.List.Sorted.{IsPermutation-sym}
 use Rattle.sqlite.specs.Effect.{Database}
 use Rattle.sqlite.specs.Edit.{id_in}
 use Rattle.sqlite.specs.Order.{Row, column}
@@ -8,29 +9,32 @@ use Rattle.sqlite.specs.State.{State, Shown}
 use Rattle.sqlite.specs.Query.{or_nulls}
 use Rattle.sqlite.specs.Tree.{rowid}
 use Rattle.sqlite.specs.View.{is_int}
-use Rattle.sqlite.specs.declared.types.Value.TheVariants.{Null, Text}
+use Rattle.sqlite.specs.declared.types.Value.TheVariants.{Int, Null, Text}
 use Rattle.sqlite_rules.specs.Lists.{Has}
-use Rattle.sqlite_rules.proofs.ListLemmas.{all_has}
+use Rattle.sqlite_rules.proofs.ListLemmas.{all_has, has_right}
 use Rattle.sqlite_rules.proofs.TableLemmas.{int_is}
 use Rattle.sqlite_sql.specs.Term.{Term, col, eval_all}
 use Rattle.sqlite_trees.specs.Tree.{Trees}
-use Rattle.fax_check.specs.Check.{IsTableChecked, Told, flaw_in}
-use Rattle.fax_check.specs.Whole.{Each, Holder, IsCallRow, IsDownRow, IsFloorRow, IsGrantRow, IsJobRow, IsOwned, IsReplyRow, IsTimed, IsTimesRow, HasInteger, Shows, ShowsCall, ShowsFloor, ShowsGrant, ShowsJob, ShowsName, ShowsReply, ShowsTimes, text_of}
+use Rattle.fax_check.specs.Check.{AreChecked, IsTableChecked, flaw_in}
+use Rattle.fax_check.specs.Pass.{IsPassed, Names, rowid_at}
+use Rattle.fax_check.specs.Whole.{Holder, IsCallRow, IsDownRow, IsFloorRow, IsGrantRow, IsJobRow, IsOwned, IsReplyRow, IsTimed, IsTimesRow, HasInteger, IsRightRow, Shows, ShowsCall, ShowsFloor, ShowsGrant, ShowsJob, ShowsName, ShowsReply, ShowsTimes, table_of, text_of}
 use Rattle.fax_check.specs.Sound.{IsStored}
 use Rattle.fax_check.specs.declared.tables.Query.{Query}
 use Rattle.fax_check.specs.declared.tables.Query.TheVariants.{Calls, Down, Floors, Grants, Jobs, Owned, Replies, Timed, Times}
 use Rattle.fax_check.proofs.BridgeLemmas as bridge
 use Rattle.fax_check.proofs.BridgeLemmas.{at_is, five, two, unshown_grant, unshown_job}
 use Rattle.fax_check.proofs.FieldLemmas.{numbers}
-use Rattle.fax_check.proofs.JoinLemmas.{each_joined, joined_each, joined_query, only_partner, partner_there, partners}
+use Rattle.fax_check.proofs.JoinLemmas.{each_joined, joined_query, only_partner, partner_there, partners, row_joined}
 use Rattle.fax_check.proofs.ShapeLemmas as shape
 use Rattle.fax_schema.proofs.GrantTexts.{grant_names, grant_project}
+use Rattle.fax_layout.proofs.EditLemmas.{has_mapped, has_permuted}
 use Rattle.fax_layout.proofs.SelectLemmas.{show}
+use Rattle.fax_layout.specs.ByRowid.{IsByRowid}
 use Rattle.fax_schema.proofs.StatementForms.{Selects, SelectsAll}
 use Rattle.fax_schema.proofs.StatementTexts.{job_names, job_project}
 use Rattle.fax_schema.specs.Schema as schema
 use Rattle.fax_schema.specs.Schema.{calls_tree, down_tree, floors_tree, grants_tree, jobs_tree, replies_tree, holds_tree, times_tree}
-use Rattle.fax_tables.specs.Row.{entry_columns, number}
+use Rattle.fax_tables.specs.Row.{HasValue, entry_columns, number}
 use Rattle.fax_tables.specs.declared.meta.Meta.{Meta}
 use Rattle.fax_core.specs.Queue.{Entry}
 use Rattle.sqlite.specs.Listing.{understood}
@@ -258,54 +262,68 @@ module _ (db : Database) (stored : IsStored db) (r : Row) where
 
 -- ---- what a pass decides
 
--- where the rows that are read are as they have to be just where the table is whole, so it is told
-told : (query : Query) (A W : Type 0) → (A → W) → (W → A) → (o : Option ℤ) → MatchOption o A (λ _. ¬ A) → Told W (flaw_in query o)
-told query A W to from None h = to h
-told query A W to from (Some id) h = λ whole. h (from whole)
-
--- each of these rows is as it has to be, or it is told that one isn't
-abbrev AreTold : (Row → Type 0) → List Row → Option ℤ → Type 0
-AreTold P rows found = MatchOption found (All P rows) (λ _. ¬ All P rows)
+-- where each row that is shown comes of one of the table, whose rowid it has, and shows what it has to where that is right
+passed_checked : (rows table : List Row) (P Q : Row → Type 0) (query : Query) → IsByRowid table → (All P rows → (r : Row) → Has table r → Q r)
+    → ((s : Row) → Has rows s → (r : Row) × Has table r × ((n : ℤ) → rowid r ≡ Int n → HasValue s (rowid_at query s) (Int n)) × (Q r → P s))
+    → (found : Option ℤ) → IsPassed P (Names query) rows found → AreChecked table Q (table_of query) (flaw_in query found)
+passed_checked rows table P Q query by whole comes None all = whole all
+passed_checked rows table P Q query by whole comes (Some id) it =
+    let from = comes it.first (subst (λ rs. Has rs it.first) (sym it.parts) (has_right it.before (it.first ∷ it.behind) it.first (inl refl))) in
+    let int = int_is (rowid from.0) (all_has (λ x. IsTrue (is_int (rowid x))) table from.0 by.integers from.1) in
+    (id, refl, record { row = from.0; has = from.1; has_id = int ∙ ap Int (sym (it.named _ (from.2 _ int))); wrong = λ right. it.wrong (from.3 right) })
 
 module _ (old new : State) (db : Database) (stored : IsStored db) (now : old.now ≡ db) (meta : Meta) (held : List Holder) (rows : List Row) where
   module _ (sql : List ℕ) (tree : ℕ) (project : List Term) (names : List (List ℕ)) (selects : Selects sql tree [] project names) (plain : (trees : Trees) → overlay trees [] tree ≡ trees tree)
       (P Q : Row → Type 0) (is : (r : Row) → Has (db.trees tree) r → P (show tree [] project [] r) → Q r) (shows : (r : Row) → Q r → P (show tree [] project [] r)) (shown : Shown sql [] old new rows) where
-    each_is : All P rows → Each db tree Q
-    each_is all r has = is r has (bridge.each_shown sql tree project names selects plain old new db stored.schema_is now rows shown P all r has)
+    of_shown : (s : Row) → Has rows s → (r : Row) × Has (db.trees tree) r × (s ≡ show tree [] project [] r)
+    of_shown s has = has_mapped (show tree [] project []) (db.trees tree) s (has_permuted rows (map (show tree [] project []) (db.trees tree)) s
+        (IsPermutation-sym (map (show tree [] project []) (db.trees tree)) rows (bridge.all_shown sql tree project names selects plain old new db stored.schema_is now rows shown)) has)
 
-    all_is : Each db tree Q → All P rows
-    all_is each = bridge.all_each sql tree project names selects plain old new db stored.schema_is now rows shown P (λ r has. shows r (each r has))
+    checked : (query : Query) → ((r : Row) (n : ℤ) → rowid r ≡ Int n → HasValue (show tree [] project [] r) (rowid_at query (show tree [] project [] r)) (Int n)) → IsByRowid (db.trees tree)
+        → (found : Option ℤ) → IsPassed P (Names query) rows found → AreChecked (db.trees tree) Q (table_of query) (flaw_in query found)
+    checked query at by = passed_checked rows (db.trees tree) P Q query by
+        (λ all r has. is r has (bridge.each_shown sql tree project names selects plain old new db stored.schema_is now rows shown P all r has))
+        (λ s has. let it = of_shown s has in (it.0, it.1, (λ n int. subst (λ x. HasValue x (rowid_at query x) (Int n)) (sym it.2) (at it.0 n int)), (λ right. subst P (sym it.2) (shows it.0 right))))
 
-    checked : (query : Query) (found : Option ℤ) → AreTold P rows found → Told (Each db tree Q) (flaw_in query found)
-    checked query found t = told query (All P rows) (Each db tree Q) each_is all_is found t
-
-  -- what a query checks is told to be whole just where it is
-  pub table_checked : (query : Query) (found : Option ℤ) → Shown (text_of query) [] old new rows → AreTold (Shows meta held query) rows found
+  -- what a query checks is as it has to be, or it is told which row isn't
+  pub table_checked : (query : Query) (found : Option ℤ) → Shown (text_of query) [] old new rows → IsPassed (Shows meta held query) (Names query) rows found
       → IsTableChecked meta held query db (flaw_in query found)
   table_checked Jobs found shown t =
-      checked (text_of Jobs) jobs_tree job_project job_names select_all_jobs (λ trees. refl) (Shows meta held Jobs) (IsJobRow meta held) (job_is db stored meta held) (job_shows db stored meta held) shown Jobs found t
+      checked (text_of Jobs) jobs_tree job_project job_names select_all_jobs (λ trees. refl) (Shows meta held Jobs) (IsRightRow meta held db Jobs) (job_is db stored meta held) (job_shows db stored meta held) shown Jobs
+      (λ r n int. record { within = omega arith; is = int }) stored.ordered.jobs found t
   table_checked Grants found shown t =
-      checked (text_of Grants) grants_tree grant_project grant_names select_all_grants (λ trees. refl) (Shows meta held Grants) (IsGrantRow meta held) (grant_is db stored meta held) (grant_shows db stored meta held) shown Grants found t
+      checked (text_of Grants) grants_tree grant_project grant_names select_all_grants (λ trees. refl) (Shows meta held Grants) (IsRightRow meta held db Grants) (grant_is db stored meta held) (grant_shows db stored meta held) shown Grants
+      (λ r n int. record { within = omega arith; is = int }) stored.ordered.grants found t
   table_checked Down found shown t =
-      checked (text_of Down) down_tree all_down_project _ select_all_down (λ trees. refl) (Shows meta held Down) IsDownRow (down_is db stored meta held) (down_shows db stored meta held) shown Down found t
+      checked (text_of Down) down_tree all_down_project _ select_all_down (λ trees. refl) (Shows meta held Down) (IsRightRow meta held db Down) (down_is db stored meta held) (down_shows db stored meta held) shown Down
+      (λ r n int. record { within = omega arith; is = int }) stored.ordered.down found t
   table_checked Replies found shown t =
-      checked (text_of Replies) replies_tree all_replies_project _ select_all_replies (λ trees. refl) (Shows meta held Replies) IsReplyRow (reply_is db stored meta held) (reply_shows db stored meta held) shown Replies found t
+      checked (text_of Replies) replies_tree all_replies_project _ select_all_replies (λ trees. refl) (Shows meta held Replies) (IsRightRow meta held db Replies) (reply_is db stored meta held) (reply_shows db stored meta held) shown Replies
+      (λ r n int. record { within = omega arith; is = int }) stored.ordered.replies found t
   table_checked Floors found shown t =
-      checked (text_of Floors) floors_tree all_floors_project _ select_all_floors (λ trees. refl) (Shows meta held Floors) IsFloorRow (floor_is db stored meta held) (floor_shows db stored meta held) shown Floors found t
+      checked (text_of Floors) floors_tree all_floors_project _ select_all_floors (λ trees. refl) (Shows meta held Floors) (IsRightRow meta held db Floors) (floor_is db stored meta held) (floor_shows db stored meta held) shown Floors
+      (λ r n int. record { within = omega arith; is = int }) stored.ordered.floors found t
   table_checked Calls found shown t =
-      checked (text_of Calls) calls_tree all_calls_project _ select_all_calls (λ trees. refl) (Shows meta held Calls) (IsCallRow held) (call_is db stored meta held) (call_shows db stored meta held) shown Calls found t
+      checked (text_of Calls) calls_tree all_calls_project _ select_all_calls (λ trees. refl) (Shows meta held Calls) (IsRightRow meta held db Calls) (call_is db stored meta held) (call_shows db stored meta held) shown Calls
+      (λ r n int. record { within = omega arith; is = int }) stored.ordered.calls found t
   table_checked Times found shown t =
-      told Times (All (ShowsTimes meta) rows) (Each db times_tree (IsTimesRow meta db))
+      passed_checked rows (db.trees times_tree) (ShowsTimes meta) (IsRightRow meta held db Times) Times stored.ordered.times
       (λ all r has. times_is db stored meta r has (λ s joined. each_joined (text_of Times) 0 times_tree jobs_tree all_times_project _ select_all_times (λ trees. refl) (λ trees. refl) old new db stored.schema_is now rows shown (ShowsTimes meta) all r s has joined))
-      (λ each. joined_each (text_of Times) 0 times_tree jobs_tree all_times_project _ select_all_times (λ trees. refl) (λ trees. refl) old new db stored.schema_is now rows shown (ShowsTimes meta) (λ r s has joined. times_shows db stored meta r has (each r has) s joined))
+      (λ x has.
+      let it = row_joined (text_of Times) 0 times_tree jobs_tree all_times_project _ select_all_times (λ trees. refl) (λ trees. refl) old new db stored.schema_is now rows shown x has in
+      (it.0, it.1, (λ n int. subst (λ y. HasValue y (rowid_at Times y) (Int n)) (sym it.4) (record { within = omega arith; is = int })), (λ right. subst (ShowsTimes meta) (sym it.4) (times_shows db stored meta it.0 it.1 right it.2 it.3))))
       found t
   table_checked Timed found shown t =
-      told Timed (All (λ row. HasInteger row 1) rows) (Each db jobs_tree (IsTimed db))
+      passed_checked rows (db.trees jobs_tree) (λ row. HasInteger row 1) (IsRightRow meta held db Timed) Timed stored.ordered.jobs
       (λ all r has. timed_is db stored r has (λ s joined. each_joined (text_of Timed) 0 jobs_tree times_tree all_timed_project _ select_all_timed (λ trees. refl) (λ trees. refl) old new db stored.schema_is now rows shown (λ row. HasInteger row 1) all r s has joined))
-      (λ each. joined_each (text_of Timed) 0 jobs_tree times_tree all_timed_project _ select_all_timed (λ trees. refl) (λ trees. refl) old new db stored.schema_is now rows shown (λ row. HasInteger row 1) (λ r s has joined. timed_shows db stored r has (each r has) s joined))
+      (λ x has.
+      let it = row_joined (text_of Timed) 0 jobs_tree times_tree all_timed_project _ select_all_timed (λ trees. refl) (λ trees. refl) old new db stored.schema_is now rows shown x has in
+      (it.0, it.1, (λ n int. subst (λ y. HasValue y (rowid_at Timed y) (Int n)) (sym it.4) (record { within = omega arith; is = int })), (λ right. subst (λ row. HasInteger row 1) (sym it.4) (timed_shows db stored it.0 it.1 right it.2 it.3))))
       found t
   table_checked Owned found shown t =
-      told Owned (All (λ row. HasInteger row 1) rows) (Each db grants_tree (IsOwned db))
+      passed_checked rows (db.trees grants_tree) (λ row. HasInteger row 1) (IsRightRow meta held db Owned) Owned stored.ordered.grants
       (λ all r has. owned_is db stored r has (λ s joined. each_joined (text_of Owned) 2 grants_tree jobs_tree all_owned_project _ select_all_owned (λ trees. refl) (λ trees. refl) old new db stored.schema_is now rows shown (λ row. HasInteger row 1) all r s has joined))
-      (λ each. joined_each (text_of Owned) 2 grants_tree jobs_tree all_owned_project _ select_all_owned (λ trees. refl) (λ trees. refl) old new db stored.schema_is now rows shown (λ row. HasInteger row 1) (λ r s has joined. owned_shows db stored r has (each r has) s joined))
+      (λ x has.
+      let it = row_joined (text_of Owned) 2 grants_tree jobs_tree all_owned_project _ select_all_owned (λ trees. refl) (λ trees. refl) old new db stored.schema_is now rows shown x has in
+      (it.0, it.1, (λ n int. subst (λ y. HasValue y (rowid_at Owned y) (Int n)) (sym it.4) (record { within = omega arith; is = int })), (λ right. subst (λ row. HasInteger row 1) (sym it.4) (owned_shows db stored it.0 it.1 right it.2 it.3))))
       found t

@@ -1,19 +1,11 @@
 -- What is known of the rows that a pass has read.
-use Rattle.std.proofs.Common.{◌∙◌, inl, ℤ, ◌++◌, List, [], ◌∷◌, All, Option, Some, None, MatchOption, ap, append_assoc, refl, subst, sym}
+use Rattle.std.proofs.Common.{◌∙◌, ℤ, ◌++◌, List, [], ◌∷◌, Option, Some, None, ap, append_assoc, refl}
 use Rattle.std.specs.Option.{option_or}
-use Rattle.std.proofs.lemmas.List.Elements.{All-append, All-cons, All-nil, recursion_from_All}
+use Rattle.std.proofs.lemmas.List.Elements.{All-append, All-cons, All-nil}
 use Rattle.sqlite.specs.Order.{Row}
-use Rattle.sqlite_rules.specs.Lists.{Has}
-use Rattle.sqlite_rules.proofs.ListLemmas.{all_has, has_right}
 use Rattle.fax_check.specs.Pass.{IsFirst, IsPassed}
 
 module _ (P : Row → Type 0) (N : Row → ℤ → Type 0) where
-  -- where one is named, they aren't all as they have to be
-  pub passed_told : (rows : List Row) (found : Option ℤ) → IsPassed P N rows found → MatchOption found (All P rows) (λ _. ¬ All P rows)
-  passed_told rows None all = all
-  passed_told rows (Some id) it = λ all.
-      it.wrong (all_has P rows it.first (recursion_from_All P rows all) (subst (λ rs. Has rs it.first) (sym it.parts) (has_right it.before (it.first ∷ it.behind) it.first (inl refl))))
-
   module _ (given : List Row) (row : Row) where
     -- the first stays so with one more row behind it
     one_behind : (id : ℤ) → IsFirst P N given id → IsFirst P N (given ++ row ∷ []) id

@@ -1,9 +1,10 @@
 -- How the rows of holds are read: each shows the open grant that it holds, whose job is there.
-use Rattle.std.specs.Prelude.{◌≡◌, ℕ, List, All, Option, Some, None, IsTrue, map, drop, take}
+use Rattle.std.specs.Prelude.{◌≡◌, ℕ, ℤ, List, [], ◌∷◌, All, Option, Some, None, IsTrue, map, drop, take}
 use Rattle.std.specs.List.Sorted.{IsPermutation}
 use Rattle.sqlite.specs.Effect.{Database}
-use Rattle.sqlite.specs.Order.{Row}
-use Rattle.sqlite.specs.declared.types.Value.TheVariants.{Text}
+use Rattle.sqlite.specs.Order.{Row, column}
+use Rattle.sqlite.specs.Tree.{rowid}
+use Rattle.sqlite.specs.declared.types.Value.TheVariants.{Int, Text}
 use Rattle.sqlite_rules.specs.Lists.{Has}
 use Rattle.fax_core.specs.Fits.{fits}
 use Rattle.fax_core.specs.Job.{job_of}
@@ -75,12 +76,29 @@ abbrev pub IsHolderFound : Database → Row → Option Holder → Type 0
 IsHolderFound db row (Some h) = HasValues row 0 (holder_columns h) × IsRightHolder db h
 IsHolderFound db row None = ¬ IsHoldShown db row
 
--- those that rows show
+-- ---- all rows
+
+-- the rowid that a row is shown with, where it is an integer
+abbrev pub HasId : Row → ℤ → Type 0
+HasId row id = (n : ℤ) → HasValue row 3 (Int n) → id ≡ n
+
+-- those that rows show, or one shows none
 abbrev pub AreHoldersIn : Database → List Row → Holders → Type 0
 AreHoldersIn db rows (Right held) = (map (take 3) rows ≡ map holder_columns held.items) × All (IsRightHolder db) held.items
-AreHoldersIn db rows (Wrong id) = (row : Row) × Has rows row × ¬ IsHoldShown db row
+AreHoldersIn db rows (Wrong id) = (row : Row) × Has rows row × (¬ IsHoldShown db row) × HasId row id
 
--- those of the table
+-- a row of the table shows an open grant with its job: it is shown by its columns and its rowid
+abbrev pub IsHoldRow : Database → Row → Type 0
+IsHoldRow db row = IsHoldShown db (column row 1 ∷ column row 2 ∷ column row 3 ∷ column row 0 ∷ [])
+
+-- one of these rows isn't as it has to be, and has this rowid
+pub record IsWrongIn (rows : List Row) (IsRight : Row → Type 0) (id : ℤ) : Type 0 where
+  pub row : Row
+  pub has : Has rows row
+  pub has_id : rowid row ≡ Int id
+  pub wrong : ¬ IsRight row
+
+-- the holders of the table
 abbrev pub AreHolders : Database → Holders → Type 0
 AreHolders db (Right held) = IsPermutation (map holder_columns held.items) (map (drop 1) (db.trees holds_tree)) × All (IsRightHolder db) held.items
-AreHolders db (Wrong id) = ¬ IsSound db
+AreHolders db (Wrong id) = (¬ IsSound db) × IsWrongIn (db.trees holds_tree) (IsHoldRow db) id

@@ -223,6 +223,18 @@ table_of Replies = table.Replies
 table_of Floors = table.Floors
 table_of Calls = table.Calls
 
+-- the tree of the table whose rows it checks
+abbrev pub tree_of : Query → ℕ
+tree_of Jobs = jobs_tree
+tree_of Grants = grants_tree
+tree_of Times = times_tree
+tree_of Timed = jobs_tree
+tree_of Owned = grants_tree
+tree_of Down = down_tree
+tree_of Replies = replies_tree
+tree_of Floors = floors_tree
+tree_of Calls = calls_tree
+
 -- the text of a query
 abbrev pub text_of : Query → List ℕ
 text_of Jobs = SELECT_ALL_JOBS.now
@@ -248,17 +260,21 @@ module _ (meta : Meta) (held : List Holder) where
   Shows Floors row = ShowsFloor row
   Shows Calls row = ShowsCall held row
 
-  -- so each row of its table is as it has to be
+  -- a row of the table that it checks is as it has to be
+  abbrev pub IsRightRow : Database → Query → Row → Type 0
+  IsRightRow db Jobs row = IsJobRow meta held row
+  IsRightRow db Grants row = IsGrantRow meta held row
+  IsRightRow db Times row = IsTimesRow meta db row
+  IsRightRow db Timed row = IsTimed db row
+  IsRightRow db Owned row = IsOwned db row
+  IsRightRow db Down row = IsDownRow row
+  IsRightRow db Replies row = IsReplyRow row
+  IsRightRow db Floors row = IsFloorRow row
+  IsRightRow db Calls row = IsCallRow held row
+
+  -- so each is
   abbrev pub IsWholeTable : Database → Query → Type 0
-  IsWholeTable db Jobs = Each db jobs_tree (IsJobRow meta held)
-  IsWholeTable db Grants = Each db grants_tree (IsGrantRow meta held)
-  IsWholeTable db Times = Each db times_tree (IsTimesRow meta db)
-  IsWholeTable db Timed = Each db jobs_tree (IsTimed db)
-  IsWholeTable db Owned = Each db grants_tree (IsOwned db)
-  IsWholeTable db Down = Each db down_tree IsDownRow
-  IsWholeTable db Replies = Each db replies_tree IsReplyRow
-  IsWholeTable db Floors = Each db floors_tree IsFloorRow
-  IsWholeTable db Calls = Each db calls_tree (IsCallRow held)
+  IsWholeTable db query = Each db (tree_of query) (IsRightRow db query)
 
 -- those whose rows are read one at a time
 abbrev pub passed : List Query

@@ -20,8 +20,9 @@ use sqlite::{Alter, Connection, Row, params};
 use std::alloc::Global;
 
 /// The first row that keeps the rows of a database from being those of a consistent queue with its kept replies: a sound
-/// one, where each grant's job is there and no submission or end is later than the clock. None where they are. Each table is read once, a row at a time, and nothing is written. The memory that
-/// it takes grows with the modems that hold grants, not with the rows.
+/// one, where each grant's job is there and no submission or end is later than the clock. None where they are such. Each
+/// table is read once, a row at a time, and nothing is written. The memory that it takes grows with the modems that hold
+/// grants, not with the rows.
 ///
 /// The database has the tables of a queue, as [`fax_store::Store::adopt`] leaves them.
 ///

@@ -89,7 +89,7 @@ no_flaw : (opened new : State) (verdict : Option Flaw) → TablesMean opened.now
 no_flaw opened new None means it clean = refl
 no_flaw opened new (Some flaw) means it clean =
     let sound : IsSound opened.now = (empty_queue, empty_ledger, means, empty_consistent) in
-    absurd (it.tells (sound_stored opened.now sound) clean sound)
+    absurd ((it.tells (sound_stored opened.now sound) clean).0 sound)
 
 -- of a queue's rows what is told is true
 is_true : (found : Database) (opened new : State) (verdict : Option Flaw) → IsOurs found → HasTaken opened found → Serves opened
@@ -97,9 +97,12 @@ is_true : (found : Database) (opened new : State) (verdict : Option Flaw) → Is
     → Tells opened new (Ok verdict) IsChecked → HasCleanDisk new → IsTrueOf found opened.now verdict
 is_true found opened new None ours has serves means it clean = λ by.
     found_sound found opened.now ours has.taken by (it.tells (taken_stored found opened.now ours has.taken by) clean)
-is_true found opened new (Some flaw) ours has serves means it clean = λ mean.
-    let sound : IsSound opened.now = (mean.0, mean.1, (means mean.0 mean.1 ours.schema_is mean.2 serves).means, mean.3) in
-    it.tells (sound_stored opened.now sound) clean sound
+is_true found opened new (Some flaw) ours has serves means it clean = (
+  λ mean.
+      let sound : IsSound opened.now = (mean.0, mean.1, (means mean.0 mean.1 ours.schema_is mean.2 serves).means, mean.3) in
+      (it.tells (sound_stored opened.now sound) clean).0 sound,
+  λ by. (it.tells (taken_stored found opened.now ours has.taken by) clean).1,
+)
 
 -- so it is of whatever the files held
 verdict_on : (image : Image) (opened new : State) (verdict : Result (Option Flaw) StoreFault) → IsFound image opened

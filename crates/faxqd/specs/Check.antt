@@ -9,6 +9,7 @@ use Rattle.sqlite_store.specs.FileStore.{view, state as stored}
 use Rattle.sqlite_store.specs.declared.store.FileStore.{FileStore}
 use Rattle.sqlite_trees.specs.View.{IsClean}
 use Rattle.sqlite_wal.specs.Recovery.{Image}
+use Rattle.fax_check.specs.Check.{IsFlawed}
 use Rattle.fax_check.specs.Consistent.{Consistent}
 use Rattle.fax_check.specs.Whole.{table_name}
 use Rattle.fax_check.specs.declared.tables.Flaw.{Flaw}
@@ -43,10 +44,10 @@ pub record StandByRowid (found now : Database) : Type 0 where
   pub grants : IsByRowid (found.trees grants_tree)
   pub meta : IsByRowid (found.trees meta_tree)
 
--- where no flaw is told the rows mean a consistent queue, and where one is they mean none
+-- where no flaw is told the rows mean a consistent queue, and where one is they mean none, and it is of a row that isn't as it has to be
 abbrev pub IsTrueOf : Database → Database → Option Flaw → Type 0
 IsTrueOf found now None = StandByRowid found now → MeanSound found
-IsTrueOf found now (Some flaw) = ¬ MeanSound found
+IsTrueOf found now (Some flaw) = (¬ MeanSound found) × (StandByRowid found now → IsFlawed now flaw)
 
 -- What the files held has no tables, and no flaw is told; or it is a queue's, and that is true of it. The rows that are checked are these.
 pub record IsVerdictOn (image : Image) (now : Database) (verdict : Option Flaw) : Type 0 where

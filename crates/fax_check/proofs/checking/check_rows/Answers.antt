@@ -1,7 +1,7 @@
 use Rattle.std.proofs.Common.{Ok, None, sym, subst}
 use Rattle.sqlite.specs.Held.{state}
 use Rattle.fax_check.specs.Check.{AreCalled, AreTablesChecked}
-use Rattle.fax_check.proofs.FinalLemmas.{all_sound, sound_called, sound_whole}
+use Rattle.fax_check.proofs.FinalLemmas.{all_sound, call_flawed, row_flawed}
 use Rattle.fax_check.proofs.TellsLemmas.{looks_as, looks_then}
 use Rattle.fax_check.proofs.checking.check_rows.Goals as goal
 
@@ -12,7 +12,7 @@ returns-in-Some g c =
     let meta = c.args.meta.now in
     let held = c.args.held.now in
     looks_as g.S.Store first c.check_tables.new.conn _ _ _ _ c.in_ok-flaw.ensures
-    (λ stored told numbers holders sound. subst (AreTablesChecked meta held db) c.in-Some.is told (sound_whole db stored meta held numbers holders sound))
+    (λ stored told numbers holders. row_flawed db stored meta held numbers holders c.in-Some.flaw (subst (AreTablesChecked meta held db) c.in-Some.is told))
 
 pub returns-then-branch : goal.returns-then-branch
 returns-then-branch g c =
@@ -32,4 +32,4 @@ returns g c =
     let meta = c.args.meta.now in
     let held = c.args.held.now in
     looks_then g.S.Store first mid c.is_called.new.conn _ _ _ (λ d found. ¬ AreCalled d held) _ c.in_ok-flaw.ensures (looks_as g.S.Store mid c.is_called.new.conn _ _ _ _ c.in_ok-is_called.ensures (λ stored told called. absurd (let on = told.1 called in let off = c.if-branch.false in cc)))
-    (λ stored is whole not_called numbers holders sound. subst (λ d. ¬ AreCalled d held) (sym is) not_called (sound_called db stored meta held numbers holders sound))
+    (λ stored is whole not_called numbers holders. call_flawed db stored meta held numbers holders (subst (λ d. ¬ AreCalled d held) (sym is) not_called))

@@ -1,10 +1,7 @@
 use Rattle.std.proofs.Common.{subst, sym}
 use Rattle.sqlite.specs.Held.{state}
 use Rattle.fax_check.specs.Check.{IsTableChecked}
-use Rattle.fax_check.specs.Pass.{Names}
-use Rattle.fax_check.specs.Whole.{Shows}
 use Rattle.fax_check.proofs.TableLemmas.{table_checked}
-use Rattle.fax_check.proofs.TallyLemmas.{passed_told}
 use Rattle.fax_check.proofs.TellsLemmas.{ok_as}
 use Rattle.fax_check.proofs.checking.check_table.Goals as goal
 
@@ -14,5 +11,4 @@ returns g c =
     let new = state g.S.Store c.pass.new.conn in
     ok_as old new _ _ _ _ c.in_ok-found.ensures (λ stored told.
     subst (IsTableChecked c.args.meta.now c.args.held.now c.args.query old.now) (sym c.flaw_in.ensures)
-    (table_checked (state g.S.Store (told.1).0) new old.now stored (told.1).1 c.args.meta.now c.args.held.now told.0 c.args.query c.in_ok-found.found (told.1).2
-    (passed_told (Shows c.args.meta.now c.args.held.now c.args.query) (Names c.args.query) told.0 c.in_ok-found.found told.2)))
+    (table_checked (state g.S.Store (told.1).0) new old.now stored (told.1).1 c.args.meta.now c.args.held.now told.0 c.args.query c.in_ok-found.found (told.1).2 told.2))

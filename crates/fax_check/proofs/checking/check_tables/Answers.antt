@@ -1,5 +1,6 @@
 use Rattle.std.proofs.Common.{◌<◌, ◌≤◌, All, get_or, length, Ok, Some, None, sym, subst, rules}
-use Rattle.std.proofs.lemmas.List.{take_all}
+use Rattle.std.proofs.lemmas.List.{get_or_default, take_all}
+use Rattle.sqlite_rules.proofs.ListLemmas.{has_at}
 use Rattle.sqlite.specs.Held.{state}
 use Rattle.fax_check.specs.Check.{IsTableChecked}
 use Rattle.fax_check.specs.Whole.{IsWholeTable, passed}
@@ -15,7 +16,11 @@ returns-in-Some g c =
     let i = c.loop-query.query-index in
     let low : i < length passed = search rules in
     looks_tells g.S.Store first c.loop-query.conn c.check_table.new.conn _ (Ok (Some c.in-Some.flaw)) _ _ c.loop-query.invariant.since c.in_ok-flaw.ensures tt (λ x same. same)
-    (λ stored clean is told. λ all. subst (λ d. IsTableChecked c.args.meta.now c.args.held.now (get_or passed i Jobs) d (Some c.in-Some.flaw)) (sym is) (subst (IsTableChecked c.args.meta.now c.args.held.now (get_or passed i Jobs) (state g.S.Store c.loop-query.conn).now) c.in-Some.is told) (all i Jobs low))
+    (λ stored clean is told. (
+      get_or passed i Jobs,
+      has_at passed i (get_or passed i Jobs) low (get_or_default passed i Jobs (get_or passed i Jobs) low),
+      subst (λ d. IsTableChecked c.args.meta.now c.args.held.now (get_or passed i Jobs) d (Some c.in-Some.flaw)) (sym is) (subst (IsTableChecked c.args.meta.now c.args.held.now (get_or passed i Jobs) (state g.S.Store c.loop-query.conn).now) c.in-Some.is told),
+    ))
 
 pub loop-query-preserved : goal.loop-query-preserved
 loop-query-preserved g c =

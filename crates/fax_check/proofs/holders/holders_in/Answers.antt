@@ -1,4 +1,5 @@
-use Rattle.std.proofs.Common.{◌≡◌, ◌<◌, ◌++◌, [], ◌∷◌, All, length, map, None, true, if◌then◌else◌, sym, ap, subst, ◌∙◌, rules}
+use Rattle.std.proofs.Common.{◌≡◌, ◌<◌, ◌++◌, [], ◌∷◌, All, length, map, None, true, if◌then◌else◌, sym, ap, subst, w64, ◌∙◌, rules}
+use Rattle.std.proofs.lemmas.Int.{to_z-of_z}
 use Rattle.std.specs.Result.{is_ok}
 use Rattle.std.proofs.lemmas.List.Elements.{All-append, All-cons, All-nil}
 use Rattle.sqlite.specs.Held.{state}
@@ -16,7 +17,7 @@ returns-in-None g c =
     let row = c.row-item.result in
     let low : i < length c.args.rows.now = search rules in
     looks_tells g.S.Store first c.loop-row.conn c.holder_in.new.conn _ _ _ _ c.loop-row.invariant.since c.in_ok-holder.ensures tt (λ x same. same)
-    (λ stored clean is told. (row, has_at c.args.rows.now i row low c.row-item.is, subst (λ d. IsHolderFound d row None) (sym is) (subst (IsHolderFound _ row) c.in-None.is told)))
+    (λ stored clean is told. (row, has_at c.args.rows.now i row low c.row-item.is, subst (λ d. IsHolderFound d row None) (sym is) (subst (IsHolderFound _ row) c.in-None.is told), λ n id. to_z-of_z w64 c.number_in.result (search rules) ∙ c.number_in.ensures n id))
 
 pub loop-row-preserved : goal.loop-row-preserved
 loop-row-preserved g c =
