@@ -13,7 +13,7 @@ check = group("demo", "Runs examples/demo.", "waiting")
 # Three faxes, as its text says.
 PAGES = [f"page {page} to {number}" for number, pages in (("5550101", 3), ("5550102", 2), ("5550103", 1))
          for page in range(1, pages + 1)]
-HEAD = "   s  who    request                         network            the queue's answer"
+HEAD = "   s  who    number   request                network            the queue's answer"
 FATES = "passes", "is lost", "its reply is lost", "comes twice", "comes late", "comes again", "came again"
 REQUEST = re.compile(rf" *\d+\.\d  (desk |ttyS[01])  (\d+) +(again )? *(/[\w/]+) +({'|'.join(FATES)})  +(-|[24]\d\d \{{.*)")
 EVENT = re.compile(r" *\d+\.\d  (ttyS[01])  \* (calls \d+: (?:busy|connected)|sends page \d to \d+)")
